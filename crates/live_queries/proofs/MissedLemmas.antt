@@ -1,8 +1,9 @@
 -- A write that misses a query: its object can't be where the query needs it, and the row of the object is empty.
 use Rattle.std.proofs.Common.{◌≡◌, ℕ, ◌/◌, ◌%◌, ◌<◌, ◌≤◌, Bool, true, false, ◌&&◌, ◌||◌, List, [], ◌∷◌, length, map, refl, sym, ap, ◌∙◌, subst, inl, inr, arith, if◌then◌else◌}
 use Rattle.std.specs.Prelude.{◌==◌, nat_le, nat_lt, slice_index}
-use Rattle.std.specs.List.{enumerate_from, filter}
+use Rattle.std.specs.List.{enumerate_from, filter, list_any}
 use Rattle.std.proofs.lemmas.Bool.{and_parts, false≢true, or_cases, or_left}
+use Rattle.std.proofs.lemmas.Bool.Decides.{nat_tests}
 use Rattle.std.proofs.lemmas.List.{length-map}
 use Rattle.std.proofs.lemmas.List.FromFn.{length-enumerate_from}
 use Rattle.std.proofs.lemmas.List.Sums.{count_by-le-length, length-filter}
@@ -15,22 +16,49 @@ use Rattle.object_store.specs.Contents.{Contents, StoredObject, catalog_of, ids_
 use Rattle.narrowing.specs.Needed.{Fails, told}
 use Rattle.answers.proofs.NarrowLemmas.{never_there}
 use Rattle.atoms.specs.Asked.{world_in}
+use Rattle.live_queries.specs.declared.lone.Lone.{Lone}
 use Rattle.live_queries.specs.declared.written.Written.{Written}
 use Rattle.live_queries.specs.Asked.{ExtendsCatalog}
 use Rattle.live_queries.specs.Columns.{AreCounted, Column, HaveObjectsOf, column_variables, columns_have, gives, object_at_number, order_of}
 use Rattle.live_queries.specs.Current.{row_at}
 use Rattle.live_queries.specs.Kept.{IsKeptQuery, KeptQuery}
+use Rattle.live_queries.specs.Lone.{IsLone}
 use Rattle.live_queries.specs.Missed.{IsClearOf, IsOfContents}
-use Rattle.live_queries.specs.Prepared.{AreColumnsWith, IsFreshFor}
+use Rattle.live_queries.specs.Prepared.{AreColumnsWith, IsFreshFor, is_of_class}
 use Rattle.live_queries.specs.Renewed.{judged_from}
 use Rattle.live_queries.specs.Untouched.{untouched}
-use Rattle.live_queries.specs.Written.{HaveObjectsWith}
+use Rattle.live_queries.specs.Written.{HaveObjectsWith, lacks_objects}
 use Rattle.live_queries.proofs.AnewLemmas.{alive_rows, renewed_objects}
 use Rattle.live_queries.proofs.GrowLemmas.{objects_with}
 use Rattle.live_queries.proofs.JudgedLemmas.{one_object}
 use Rattle.live_queries.proofs.MadeLemmas.{counted, same_order}
 use Rattle.live_queries.proofs.OrderLemmas.{among, columns_are, order_below}
 use Rattle.exact.proofs.Naturals.{below_from_test, equals_itself, same_from_equal}
+
+-- ---- a query of one variable
+
+-- a column with as many objects as there are lacks none
+no_fewer : (is_its : Bool) (has most : ℕ) → most ≤ has → ((is_its && nat_lt has most) || false) ≡ false
+no_fewer true has most many = grind (arith, nat_tests, many)
+no_fewer false has most many = refl
+
+lacks_none : (classes : List ℕ) (class count : ℕ) (columns : List Column) (lone : Lone) → IsLone classes columns lone → count ≤ lone.count →
+    list_any (lacks_objects classes class count) columns ≡ false
+lacks_none classes class count [] lone is many = refl
+lacks_none classes class count (c ∷ d ∷ cs) lone is many = absurd (omega (arith, ap length is.count))
+lacks_none classes class count (c ∷ []) lone is many =
+    let has : length c.ids ≡ lone.count = (λ i. slice_index (is.count i) 0) in
+    no_fewer (is_of_class classes class c.variable) (length c.ids) count (omega (arith, has, many))
+
+-- what is told of it without a look at its columns
+pub clear_of_lone : (o : Written) (k : KeptQuery) (lone : Lone) → IsLone k.query.classes k.columns lone → lone.class ≡ o.class → o.count ≤ lone.count →
+    ((t : ℕ) → row_at k o.place t ≡ false) → IsClearOf o k
+clear_of_lone o k lone is class count clear = record {
+  alone = is.class ∙ ap (λ (n : ℕ). n ∷ []) class;
+  one = sym (length-map k.columns (λ (c : Column). length c.ids)) ∙ ap length is.count;
+  all = lacks_none k.query.classes o.class o.count k.columns lone is count;
+  clear = clear;
+}
 
 -- ---- the place of the object
 

@@ -3,6 +3,7 @@ pub mod Columns
 pub mod Current
 pub mod Effort
 pub mod Kept
+pub mod Lone
 pub mod Missed
 pub mod Numbered
 pub mod Prepared

@@ -80,6 +80,13 @@ AreFreshFor w object class now (k ∷ ks) [] = ⊥
 AreFreshFor w object class now (k ∷ ks) (r ∷ rs) =
     IsFreshFor w object class now k r × AreFreshFor w object class now ks rs
 
+-- it stands after what is made of other queries
+pub record AddsRenewal (w : World) (object class now : ℕ) (k : KeptQuery) (old new : List Renewal) : Type 0 where
+  pub added : Renewal
+  pub ready : IsReadyFor class k added
+  pub fresh : IsFreshFor w object class now k added
+  pub list : new ≡ old ++ added ∷ []
+
 -- it was made of a query
 pub record IsMade (object class : ℕ) (r : Renewal) (old new : KeptQuery) : Type 0 where
   pub head : IsSameRequest old new

@@ -239,7 +239,7 @@ fn does_take(grows: bool, classes: &[ClassNo], class: ClassNo, column: &Objects)
 
 // Whether there is one class alone, which is this one.
 #[inline]
-pub(crate) fn is_alone(classes: &[ClassNo], class: ClassNo) -> bool
+fn is_alone(classes: &[ClassNo], class: ClassNo) -> bool
     ensures { result ≡ true → classes.now ≡ class ∷ [] }
 {
     match classes.split_first() {

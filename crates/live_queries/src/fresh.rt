@@ -1,7 +1,7 @@
 //! What is prepared of a write.
 ghost use Rattle.std.specs.Prelude.{◌≡◌, ◌<◌, ◌++◌, ◌∷◌, [], None, length, IsOk, OnOk};
 ghost use Rattle.formula.specs.declared.limits.TheConstants.{QUERY_LIMIT};
-ghost use Rattle.live_queries.specs.Untouched.{or_untouched, spread};
+ghost use Rattle.live_queries.specs.Untouched.{or_untouched, spread, untouched};
 
 use formula::ClassNo;
 use interval_set::IntervalSet;
@@ -67,9 +67,18 @@ impl Renewals {
                 self.touched.push(Touched { passed, renewal })?;
                 self.rest = 0;
             }
-            None => self.rest += 1,
+            None => self.pass(),
         }
         Ok(())
+    }
+
+    /// The next query is passed over: nothing is made of it.
+    #[inline]
+    pub(crate) fn pass(&mut self)
+        requires { length self.old < QUERY_LIMIT }
+        ensures { self.new ≡ self.old ++ untouched ∷ [] }
+    {
+        self.rest += 1;
     }
 
     /// The queries that are touched, and how many stand after the last of them.

@@ -8,6 +8,7 @@ mod fresh;
 mod judging;
 mod laws;
 mod live;
+mod lone;
 mod numbering;
 mod objects;
 mod parts;

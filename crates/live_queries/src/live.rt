@@ -20,12 +20,12 @@ ghost use Rattle.live_queries.specs.Columns.{HaveObjectsOf, column_variables};
 ghost use Rattle.live_queries.specs.Effort.{all_judged_reads, judged_reads};
 ghost use Rattle.live_queries.specs.Kept.{AreKept, IsKeptQuery, registered_query};
 ghost use Rattle.live_queries.specs.Missed.{IsOfContents, IsSightOf};
-ghost use Rattle.live_queries.specs.Prepared.{AreFreshFor, AreMade, ArePrepared, IsFreshFor, IsPrepared, IsReadyFor};
+ghost use Rattle.live_queries.specs.Prepared.{AddsRenewal, AreFreshFor, AreMade, ArePrepared, IsPrepared};
 ghost use Rattle.live_queries.specs.Registering.{AddsQuery};
-ghost use Rattle.live_queries.specs.Untouched.{or_untouched, spread};
+ghost use Rattle.live_queries.specs.Untouched.{spread};
 ghost use Rattle.live_queries.specs.Told.{answer_of, changes_of, info_of, passings_of, query_named, told_info};
 
-use crate::fresh::{Fresh, Renewal, Renewals, Touched};
+use crate::fresh::{Fresh, Renewals, Touched};
 use crate::objects::place_among;
 use crate::query::LiveQuery;
 use crate::sight::Sight;
@@ -301,8 +301,8 @@ fn written(store: &Store, class: ClassNo, id: u32) -> Written
     }
 }
 
-// What a write to an object makes of a query. Nothing is evaluated of one that the object misses.
-fn renewal_of<L: Ledger, M: Ledger>(
+// Adds what a write to an object makes of a query. Nothing is evaluated of one that the object misses.
+fn add_renewal<L: Ledger, M: Ledger>(
     alloc: Global,
     query: &LiveQuery,
     object: &Written,
@@ -311,23 +311,52 @@ fn renewal_of<L: Ledger, M: Ledger>(
     now: u32,
     reads: &mut Steps<L>,
     probes: &mut Steps<M>,
-) -> Result<Option<Renewal>, AllocError>
+    renewals: &mut Renewals,
+) -> Result<(), AllocError>
     requires accepted { IsOfAcceptedWrites world.now.store.now }
     requires fits { FitsWorld (told_world world.now) query.now }
     requires written { IsOfContents world.now.store.now object.now }
     requires before { (old : Catalog) × ExtendsCatalog object.now.id old (catalog_of world.now.store.now) × HaveObjectsOf old query.now.query.classes query.now.columns }
     requires sight { IsSightOf world.now.store.now object.now.id sight.old }
-    ensures ready { IfOk result (λ r. IsReadyFor object.now.class query.now (or_untouched r)) }
-    ensures fresh { IfOk result (λ r. IsFreshFor (told_world world.now) object.now.id object.now.class now query.now (or_untouched r)) }
+    requires few { length renewals.old < QUERY_LIMIT }
+    ensures added { OnOk result (AddsRenewal (told_world world.now) object.now.id object.now.class now query.now renewals.old renewals.new) }
     ensures sight { IsSightOf world.now.store.now object.now.id sight.new }
     ensures least { reads.old ≤ reads.new }
     ensures most { reads.new ≤ reads.old + judged_reads (catalog_of world.now.store.now) now object.now.class query.now }
 {
     if query.is_missed(object, sight, world, now) {
-        return Ok(None);
+        renewals.pass();
+        return Ok(());
     }
+    add_evaluated(alloc, query, object, world, now, reads, probes, renewals)
+}
+
+// The same of a query that the object doesn't surely miss. Not inlined: the others are passed over in a short loop, which
+// makes no room for what would be made of them.
+#[inline(never)]
+fn add_evaluated<L: Ledger, M: Ledger>(
+    alloc: Global,
+    query: &LiveQuery,
+    object: &Written,
+    world: &StoredWorld,
+    now: u32,
+    reads: &mut Steps<L>,
+    probes: &mut Steps<M>,
+    renewals: &mut Renewals,
+) -> Result<(), AllocError>
+    requires accepted { IsOfAcceptedWrites world.now.store.now }
+    requires fits { FitsWorld (told_world world.now) query.now }
+    requires there { object.now.id < length world.now.store.now.objects }
+    requires class { object.now.class ≡ class_in world.now.store.now object.now.id }
+    requires before { (old : Catalog) × ExtendsCatalog object.now.id old (catalog_of world.now.store.now) × HaveObjectsOf old query.now.query.classes query.now.columns }
+    requires few { length renewals.old < QUERY_LIMIT }
+    ensures added { OnOk result (AddsRenewal (told_world world.now) object.now.id object.now.class now query.now renewals.old renewals.new) }
+    ensures least { reads.old ≤ reads.new }
+    ensures most { reads.new ≤ reads.old + judged_reads (catalog_of world.now.store.now) now object.now.class query.now }
+{
     let renewal = query.renewal(alloc, object, world, now, reads, probes)?;
-    Ok(renewal)
+    renewals.add(renewal)?;
+    Ok(())
 }
 
 // What a write to an object of a class makes of each of these queries. One that it doesn't touch takes no memory. Not
@@ -362,8 +391,17 @@ fn renewals_of<L: Ledger, M: Ledger>(
     let mut sight = Sight::none();
     let mut rest = queries;
     'queries: while let Some((query, later)) = rest.split_first() {
-        let renewal = renewal_of(alloc, query, &object, &mut sight, world, now, reads, probes)?;
-        renewals.add(renewal)?;
+        add_renewal(
+            alloc,
+            query,
+            &object,
+            &mut sight,
+            world,
+            now,
+            reads,
+            probes,
+            &mut renewals,
+        )?;
         rest = later;
     }
     Ok(renewals)

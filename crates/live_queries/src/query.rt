@@ -33,8 +33,9 @@ ghost use Rattle.live_queries.specs.Written.{HaveObjectsWith};
 ghost use Rattle.live_queries.specs.Told.{answer_of, info_of, key_of, listed_lines, move as told_move, moves_of, passing_change as told_passing, passings_of, row_of_line, target_count, target_times, told_info};
 
 use crate::columns::{class_count, columns_of, has_class, lack};
-use crate::evaluating::{is_alone, new_rows, rows_between};
+use crate::evaluating::{new_rows, rows_between};
 use crate::fresh::Renewal;
+use crate::lone::{Lone, has_all, lone_of};
 use crate::objects::{Objects, add_object, objects_of, width};
 use crate::sight::Sight;
 use crate::told::{AnswerRow, Move, QueryInfo};
@@ -53,27 +54,30 @@ use tick_set::Window;
 /// A registered query. Its variables stand in the order of the numbers of its bindings: the targets first.
 #[derive(Drop)]
 pub(crate) struct LiveQuery {
-    rows: KeptRows<IntervalSet>,
-    // From the flags of the rows, their last field, to the head of the formula there stands together what tells that a
-    // write misses the query.
     columns: Vec<Objects>,
+    // From the flags of the rows, their last field, to the kind there stands together what tells with the formula that a
+    // write misses the query: the columns and the classes themselves aren't looked at.
+    rows: KeptRows<IntervalSet>,
     entry: u32,
     expiry: u32,
+    lone: Option<Lone>,
     kind: QueryKind,
+    name: Word,
     query: RQuery,
     targets: Targets,
-    name: Word,
 }
 
 impl Model for LiveQuery {
     ghost use Rattle.std.specs.Prelude.{◌≡◌, ◌≤◌, ◌-◌, ℕ};
     ghost use Rattle.std.specs.Coded.{codes};
+    ghost use Rattle.std.specs.Option.{ForSome};
     ghost use Rattle.tick_set.specs.declared.spans.TheConstants.{SPAN_LIMIT};
     ghost use Rattle.formula_shape.specs.ShapeCode.{shape_code};
     ghost use Rattle.formula.specs.Tree.{resolved_view};
     ghost use Rattle.formula.specs.declared.tree.RAtom.{RAtom};
     ghost use Rattle.formula.specs.declared.tree.RTerm.{RTerm};
     ghost use Rattle.live_queries.specs.Kept.{IsKeptQuery, KeptQuery};
+    ghost use Rattle.live_queries.specs.Lone.{IsLone};
     ghost use Rattle.live_queries.specs.Told.{target_count, target_width};
 
     ghost Value = { KeptQuery };
@@ -84,7 +88,8 @@ impl Model for LiveQuery {
 
     ghost invariant = { λ a.
         let k : KeptQuery = record { name = a.name; kind = a.kind; query = resolved_view a.query; entry = a.entry; expiry = a.expiry; columns = a.columns.items; pages = a.rows } in
-        IsKeptQuery k × (a.targets.count ≡ target_count k) × (a.targets.width ≡ target_width k) × (a.expiry - a.entry ≤ SPAN_LIMIT) };
+        IsKeptQuery k × (a.targets.count ≡ target_count k) × (a.targets.width ≡ target_width k) × (a.expiry - a.entry ≤ SPAN_LIMIT)
+        × ForSome a.lone (IsLone k.query.classes k.columns) };
 }
 
 impl LiveQuery {
@@ -126,6 +131,7 @@ impl LiveQuery {
             probes,
         )?;
         let targets = targets_of(&columns, query.targets.items().len());
+        let lone = lone_of(&query, &columns);
         Ok(LiveQuery {
             name: info.name,
             kind: info.kind,
@@ -133,6 +139,7 @@ impl LiveQuery {
             entry: info.entry,
             expiry: info.expiry,
             columns,
+            lone,
             targets,
             rows,
         })
@@ -141,8 +148,6 @@ impl LiveQuery {
     /// What a write to an object makes of it. None where it stays as it is: it has no variable of its class, it gets no
     /// object and its expiry is before the write or none of its rows changes. The object's place is looked for at a likely
     /// one first. It fails only where memory is out.
-    // Not inlined: the queries that a write misses are passed over in a short loop.
-    #[inline(never)]
     pub(crate) fn renewal<L: Ledger, M: Ledger>(
         &self,
         alloc: Global,
@@ -209,14 +214,10 @@ impl LiveQuery {
     fn has_clear_row(&self, object: &Written) -> bool
         ensures { result ≡ true → IsClearOf object.now self.now }
     {
-        let classes = self.query.classes.items();
-        if !is_alone(classes, object.class) {
+        let Some(lone) = &self.lone else {
             return false;
-        }
-        if self.columns.len() != 1 {
-            return false;
-        }
-        if lack(&self.columns, classes, object.class, object.count) {
+        };
+        if !has_all(lone, object) {
             return false;
         }
         self.rows.is_clear(object.place)
@@ -512,6 +513,7 @@ impl LiveQuery {
             class,
             object,
         );
+        self.lone = lone_of(&self.query, &self.columns);
         renewal.changes.commit(&mut self.rows);
     }
 }

@@ -9,7 +9,6 @@ use Rattle.live_queries.specs.Effort.{judged_reads}
 use Rattle.live_queries.specs.Kept.{KeptQuery}
 use Rattle.live_queries.specs.Missed.{IsSightOf}
 use Rattle.live_queries.specs.Prepared.{AreFreshFor, ArePrepared, IsFreshFor, IsReadyFor}
-use Rattle.live_queries.specs.Untouched.{or_untouched}
 use Rattle.live_queries.proofs.ListLemmas.{counts_go_on, pairs_begin, pairs_end, pairs_go_on}
 use Rattle.live_queries.proofs.RenewedLemmas.{looks_end, looks_go_on, looks_stop}
 use Rattle.live_queries.proofs.live.renewals_of.Goals as goal
@@ -27,14 +26,11 @@ queries-init g c = record {
   sight = c.none-sight.ensures c.args.world.now.store.now c.args.id;
 }
 
-pub add-requires : goal.add-requires
-add-requires g c =
-    let left : length c.queries.rest.now ≡ suc (length c.in-Some.later.now) = ap length c.in-Some.ensures.cases.0 in
-    omega (arith, left, c.queries.invariant.many, c.requires.few)
-
-pub renewal_of-requires : goal.renewal_of-requires
-renewal_of-requires g c = record {
+pub add_renewal-requires : goal.add_renewal-requires
+add_renewal-requires g c = record {
   accepted = c.requires.accepted;
+  few = (let left : length c.queries.rest.now ≡ suc (length c.in-Some.later.now) = ap length c.in-Some.ensures.cases.0 in
+      omega (arith, left, c.queries.invariant.many, c.requires.few));
   fits = All-head (FitsWorld (told_world c.args.world.now)) c.in-Some.query.now c.in-Some.later.now
       (subst (All (FitsWorld (told_world c.args.world.now))) c.in-Some.ensures.cases.0 c.queries.invariant.fits);
   written = c.written-object.ensures.written;
@@ -58,26 +54,26 @@ queries-preserved g c = record {
         c.queries.rest.now c.in-Some.ensures.cases.0 c.queries.invariant.before.objects;
   };
   prepared = pairs_go_on (ArePrepared c.args.class) c.args.queries.now c.queries.rest.now c.in-Some.later.now c.in-Some.query.now
-      c.queries.renewals c.add.new.self (or_untouched c.in_ok-renewal.renewal) c.in-Some.ensures.cases.0 c.in_ok-add.ensures.added
-      (λ more is. (subst (λ (k : ℕ). IsReadyFor k c.in-Some.query.now (or_untouched c.in_ok-renewal.renewal)) c.written-object.ensures.class c.in_ok-renewal.ensures.ready, is)) c.queries.invariant.prepared;
+      c.queries.renewals c.add_renewal.new.renewals c.in_ok-add_renewal.ensures.added.added c.in-Some.ensures.cases.0 c.in_ok-add_renewal.ensures.added.list
+      (λ more is. (subst (λ (k : ℕ). IsReadyFor k c.in-Some.query.now c.in_ok-add_renewal.ensures.added.added) c.written-object.ensures.class c.in_ok-add_renewal.ensures.added.ready, is)) c.queries.invariant.prepared;
   fresh = pairs_go_on (AreFreshFor (told_world c.args.world.now) c.args.id c.args.class c.args.now) c.args.queries.now
       c.queries.rest.now c.in-Some.later.now c.in-Some.query.now
-      c.queries.renewals c.add.new.self (or_untouched c.in_ok-renewal.renewal) c.in-Some.ensures.cases.0 c.in_ok-add.ensures.added
+      c.queries.renewals c.add_renewal.new.renewals c.in_ok-add_renewal.ensures.added.added c.in-Some.ensures.cases.0 c.in_ok-add_renewal.ensures.added.list
       (λ more is. (
-        subst (λ (i : ℕ). IsFreshFor (told_world c.args.world.now) i c.args.class c.args.now c.in-Some.query.now (or_untouched c.in_ok-renewal.renewal)) c.written-object.ensures.id
-            (subst (λ (k : ℕ). IsFreshFor (told_world c.args.world.now) c.written-object.result.id k c.args.now c.in-Some.query.now (or_untouched c.in_ok-renewal.renewal)) c.written-object.ensures.class
-            c.in_ok-renewal.ensures.fresh),
+        subst (λ (i : ℕ). IsFreshFor (told_world c.args.world.now) i c.args.class c.args.now c.in-Some.query.now c.in_ok-add_renewal.ensures.added.added) c.written-object.ensures.id
+            (subst (λ (k : ℕ). IsFreshFor (told_world c.args.world.now) c.written-object.result.id k c.args.now c.in-Some.query.now c.in_ok-add_renewal.ensures.added.added) c.written-object.ensures.class
+            c.in_ok-add_renewal.ensures.added.fresh),
         is,
       )) c.queries.invariant.fresh;
   many = counts_go_on (ArePrepared c.args.class) c.args.queries.now c.queries.rest.now c.in-Some.later.now c.in-Some.query.now
-      c.queries.renewals c.add.new.self (or_untouched c.in_ok-renewal.renewal) (length c.args.queries.now) c.in-Some.ensures.cases.0 c.in_ok-add.ensures.added
+      c.queries.renewals c.add_renewal.new.renewals c.in_ok-add_renewal.ensures.added.added (length c.args.queries.now) c.in-Some.ensures.cases.0 c.in_ok-add_renewal.ensures.added.list
       c.queries.invariant.many;
-  least = omega (arith, c.queries.invariant.least, c.in_ok-renewal.ensures.least);
+  least = omega (arith, c.queries.invariant.least, c.in_ok-add_renewal.ensures.least);
   most = looks_go_on (catalog_of c.args.world.now.store.now) c.args.now c.args.class c.queries.rest.now c.in-Some.later.now c.in-Some.query.now
-      c.queries.reads c.renewal_of.new.reads _ c.in-Some.ensures.cases.0
-      (subst (λ (k : ℕ). c.renewal_of.new.reads ≤ c.queries.reads + judged_reads (catalog_of c.args.world.now.store.now) c.args.now k c.in-Some.query.now) c.written-object.ensures.class c.in_ok-renewal.ensures.most)
+      c.queries.reads c.add_renewal.new.reads _ c.in-Some.ensures.cases.0
+      (subst (λ (k : ℕ). c.add_renewal.new.reads ≤ c.queries.reads + judged_reads (catalog_of c.args.world.now.store.now) c.args.now k c.in-Some.query.now) c.written-object.ensures.class c.in_ok-add_renewal.ensures.most)
       c.queries.invariant.most;
-  sight = subst (λ (i : ℕ). IsSightOf c.args.world.now.store.now i c.renewal_of.new.sight) c.written-object.ensures.id c.in_ok-renewal.ensures.sight;
+  sight = subst (λ (i : ℕ). IsSightOf c.args.world.now.store.now i c.add_renewal.new.sight) c.written-object.ensures.id c.in_ok-add_renewal.ensures.sight;
 }
 
 pub returns-clause-prepared : goal.returns-clause-prepared
@@ -93,16 +89,9 @@ pub returns-clause-most : goal.returns-clause-most
 returns-clause-most g c =
     looks_end (catalog_of c.args.world.now.store.now) c.args.now c.args.class c.queries.rest.now c.queries.reads _ c.queries.invariant.most
 
-pub returns-in_err-renewal-clause-most : goal.returns-in_err-renewal-clause-most
-returns-in_err-renewal-clause-most g c =
+pub returns-in_err-add_renewal-clause-most : goal.returns-in_err-add_renewal-clause-most
+returns-in_err-add_renewal-clause-most g c =
     looks_stop (catalog_of c.args.world.now.store.now) c.args.now c.args.class c.queries.rest.now c.in-Some.later.now c.in-Some.query.now
     c.queries.reads _ _ c.in-Some.ensures.cases.0
-    (subst (λ (k : ℕ). c.renewal_of.new.reads ≤ c.queries.reads + judged_reads (catalog_of c.args.world.now.store.now) c.args.now k c.in-Some.query.now) c.written-object.ensures.class c.in_err-renewal.ensures.most)
-    c.queries.invariant.most
-
-pub returns-in_err-add-clause-most : goal.returns-in_err-add-clause-most
-returns-in_err-add-clause-most g c =
-    looks_stop (catalog_of c.args.world.now.store.now) c.args.now c.args.class c.queries.rest.now c.in-Some.later.now c.in-Some.query.now
-    c.queries.reads _ _ c.in-Some.ensures.cases.0
-    (subst (λ (k : ℕ). c.renewal_of.new.reads ≤ c.queries.reads + judged_reads (catalog_of c.args.world.now.store.now) c.args.now k c.in-Some.query.now) c.written-object.ensures.class c.in_ok-renewal.ensures.most)
+    (subst (λ (k : ℕ). c.add_renewal.new.reads ≤ c.queries.reads + judged_reads (catalog_of c.args.world.now.store.now) c.args.now k c.in-Some.query.now) c.written-object.ensures.class c.in_err-add_renewal.ensures.most)
     c.queries.invariant.most

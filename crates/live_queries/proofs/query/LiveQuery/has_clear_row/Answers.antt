@@ -1,20 +1,12 @@
-use Rattle.std.proofs.Common.{List, ℕ, ap, sym, ◌∙◌, subst, arith}
-use Rattle.std.specs.List.{list_any}
+use Rattle.std.proofs.Common.{subst, arith}
 use Rattle.std.proofs.lemmas.Bool.{not-false, not-true}
-use Rattle.std.proofs.lemmas.Bool.Decides.{nat_tests}
-use Rattle.live_queries.specs.Columns.{Column}
 use Rattle.live_queries.specs.Missed.{IsClearOf}
-use Rattle.live_queries.specs.Written.{lacks_objects}
+use Rattle.live_queries.proofs.MissedLemmas.{clear_of_lone}
 use Rattle.live_queries.proofs.query.LiveQuery.has_clear_row.Goals as goal
 
 pub returns : goal.returns
-returns c empty =
-    subst (IsClearOf c.args.object.now) c.self.view_is (record {
-      alone = sym c.items-classes.ensures ∙ c.is_alone.ensures (grind (arith, not-false, not-true, c.if-not-is_alone.false));
-      one = grind (arith, nat_tests, c.len.ensures, c.if-len-ne1.false);
-      all = sym (c.lack.ensures
-          ∙ ap (λ (ks : List ℕ). list_any (lacks_objects ks c.args.object.now.class c.args.object.now.count) c.deref.result.now) c.items-classes.ensures
-          ∙ ap (λ (cs : List Column). list_any (lacks_objects c.self.inside.query.classes c.args.object.now.class c.args.object.now.count) cs) c.deref.ensures.value)
-          ∙ c.if-lack.false;
-      clear = c.is_clear.ensures empty;
-    })
+returns c clear =
+    subst (IsClearOf c.args.object.now) c.self.view_is
+    (clear_of_lone c.args.object.now _ c.in-Some.lone (c.self.invariant.4 c.in-Some.lone c.in-Some.is)
+    (c.has_all.ensures.class (grind (arith, not-false, not-true, c.if-not-has_all.false)))
+    (c.has_all.ensures.count (grind (arith, not-false, not-true, c.if-not-has_all.false))) (c.is_clear.ensures clear))

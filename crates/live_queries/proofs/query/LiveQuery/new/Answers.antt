@@ -1,4 +1,5 @@
 use Rattle.std.proofs.Common.{ℕ, ◌≤◌, ◌&&◌, List, length, take, drop, refl, sym, ap, ◌∙◌, subst, arith}
+use Rattle.std.specs.Option.{ForSome}
 use Rattle.tick_set.specs.Runs.{spans_have}
 use Rattle.tick_set.specs.Ticks.{within}
 use Rattle.formula.specs.Tree.{resolved_view}
@@ -11,6 +12,7 @@ use Rattle.meaning.specs.Reads.{sizes_of}
 use Rattle.object_store.specs.Contents.{catalog_of}
 use Rattle.atoms.specs.Asked.{told_world}
 use Rattle.live_queries.specs.Columns.{Column, column_variables, object_at_number}
+use Rattle.live_queries.specs.Lone.{IsLone}
 use Rattle.live_queries.specs.Told.{told_info}
 use Rattle.live_queries.proofs.AnewLemmas.{anew_is_kept, anew_is_registered, few_numbers, targets_first}
 use Rattle.live_queries.proofs.ReadLemmas.{most_over}
@@ -43,6 +45,7 @@ invariant_of-result g c = (
   c.targets_of-targets.ensures.count ∙ (λ i. size_of (column_variables (take (length (c.items.ensures i)) (c.deref-2.ensures.value i)))),
   c.targets_of-targets.ensures.width ∙ (λ i. size_of (column_variables (drop (length (c.items.ensures i)) (c.deref-2.ensures.value i)))),
   c.requires.length,
+  subst (λ (cs : List Column). ForSome c.lone_of-lone.result (IsLone c.args.query.classes cs)) c.deref-3.ensures.value c.lone_of-lone.ensures,
 )
 
 pub returns-clause-registered : goal.returns-clause-registered
