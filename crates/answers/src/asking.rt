@@ -1,10 +1,10 @@
 //! The answer to a query.
 
-ghost use Rattle.std.specs.Prelude.{◌≡◌, ◌≤◌, ◌+◌, ◌-◌, ◌&&◌, ℕ, Bool, true, length, map, IfOk};
+ghost use Rattle.std.specs.Prelude.{◌≡◌, ◌+◌, ◌-◌, ◌&&◌, ℕ, Bool, true, length, map, IfOk};
 ghost use Rattle.std.specs.List.{list_all};
 ghost use Rattle.tick_set.specs.Runs.{spans_have};
 ghost use Rattle.tick_set.specs.Ticks.{between, within};
-ghost use Rattle.tick_set.specs.declared.spans.TheConstants.{SPAN_LIMIT};
+ghost use Rattle.tick_set.specs.Windows.{IsQueryWindow};
 ghost use Rattle.history.specs.Catalog.{ids_of};
 ghost use Rattle.history.specs.World.{World};
 ghost use Rattle.formula.specs.Resolved.{IsResolved, are_distinct};
@@ -13,12 +13,13 @@ ghost use Rattle.meaning.specs.Answer.{answer, answer_where};
 ghost use Rattle.meaning.specs.Fits.{FitsItsClasses};
 ghost use Rattle.meaning.specs.Reads.{query_reads, sizes_of};
 ghost use Rattle.object_store.specs.Contents.{catalog_of};
-ghost use Rattle.relation.specs.Frames.{IsIn, frame};
+ghost use Rattle.relation.specs.Frames.{IsIn, SameFrame, frame};
 ghost use Rattle.relation.specs.Key.{has_id};
 ghost use Rattle.relation.specs.Projection.{IsPicked};
 ghost use Rattle.relation.specs.Rows.{table_has};
 ghost use Rattle.atoms.specs.Asked.{world_in};
 ghost use Rattle.answers.specs.Objects.{IsOfAcceptedWrites};
+ghost use Rattle.steps.specs.Counting.{StepsAtMost};
 
 use crate::evaluating::{domains_of, evaluate};
 use crate::told::Answer;
@@ -49,11 +50,10 @@ pub fn ask<L: Ledger, M: Ledger>(
     requires accepted { IsOfAcceptedWrites store.now }
     requires resolved { IsResolved (resolved_view q.now) }
     requires fits { FitsItsClasses (world_in store.now regions.now) (resolved_view q.now) }
-    requires length { w.hi - w.lo ≤ SPAN_LIMIT }
+    requires length { IsQueryWindow w }
     ensures rows { IfOk result (λ a. a ≡ answer (world_in store.now regions.now) (resolved_view q.now) w.lo w.hi) }
-    ensures least { reads.old ≤ reads.new }
-    ensures most { reads.new ≤ reads.old
-        + query_reads (sizes_of (catalog_of store.now) (resolved_view q.now)) (w.hi + 1 - w.lo) (resolved_view q.now) }
+    ensures reads { StepsAtMost reads.old reads.new
+        (query_reads (sizes_of (catalog_of store.now) (resolved_view q.now)) (w.hi + 1 - w.lo) (resolved_view q.now)) }
 {
     let domains = domains_of(alloc, q, store)?;
     let full = evaluate(alloc, q, &domains, store, regions, w, reads, probes)?;
@@ -103,7 +103,7 @@ fn over_targets<'d>(
     ensures some { IfOk result (λ r. (b : ℕ → ℕ) (t : ℕ) → table_has spans_have r b t ≡ true
         → IsPicked spans_have full.entry targets.now b t) }
     ensures vars { IfOk result (λ r. r.vars ≡ targets.now) }
-    ensures frame { IfOk result (λ r. frame r ≡ frame full.entry) }
+    ensures frame { IfOk result (λ r. SameFrame r full.entry) }
 {
     if full.vars() == targets {
         return Ok(full);

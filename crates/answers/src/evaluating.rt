@@ -1,22 +1,23 @@
 //! Queries over a store and its regions.
 
-ghost use Rattle.std.specs.Prelude.{◌≡◌, ◌≤◌, ◌+◌, ◌-◌, ◌&&◌, ◌∷◌, ℕ, [], true, false, length, map, IfOk};
+ghost use Rattle.std.specs.Prelude.{◌≡◌, ◌+◌, ◌-◌, ◌&&◌, ◌∷◌, ℕ, [], true, false, length, map, IfOk};
 ghost use Rattle.tick_set.specs.Runs.{spans_have};
 ghost use Rattle.tick_set.specs.Ticks.{between, within};
-ghost use Rattle.tick_set.specs.declared.spans.TheConstants.{SPAN_LIMIT};
+ghost use Rattle.tick_set.specs.Windows.{IsQueryWindow};
 ghost use Rattle.history.specs.Catalog.{ids_of};
-ghost use Rattle.formula_shape.specs.declared.limits.TheConstants.{OBJECT_LIMIT};
+ghost use Rattle.formula_shape.specs.Sizes.{FitInQuery};
 ghost use Rattle.formula.specs.Resolved.{IsResolved};
 ghost use Rattle.formula.specs.Tree.{resolved_view};
 ghost use Rattle.meaning.specs.Binding.{holds_full};
 ghost use Rattle.meaning.specs.Fits.{FitsItsClasses};
 ghost use Rattle.meaning.specs.Reads.{query_reads};
 ghost use Rattle.object_store.specs.Contents.{catalog_of};
-ghost use Rattle.relation.specs.Frames.{IsIn, IsWider, domain_size, frame, frame_of};
+ghost use Rattle.relation.specs.Frames.{HasFrame, IsIn, IsWider, domain_size, frame};
 ghost use Rattle.relation.specs.Key.{has_id, ids_of_variable as domain_of};
 ghost use Rattle.relation.specs.Rows.{table_has};
 ghost use Rattle.atoms.specs.Asked.{world_in};
 ghost use Rattle.answers.specs.Objects.{AreOfItsClasses, IsOfAcceptedWrites};
+ghost use Rattle.steps.specs.Counting.{StepsAtMost};
 
 use crate::laws::fitting_queries_can_be_asked;
 use atoms::{StoredWorld, resolved_atoms_and_terms_are_sized};
@@ -37,7 +38,7 @@ use tick_set::{TickSet, Window};
 /// The objects that were ever inserted into the classes of a query, for each of its variables. It fails only
 /// where memory is out.
 pub fn domains_of(alloc: Global, q: &RQuery, store: &Store) -> Result<Domains, AllocError>
-    requires { length q.now.classes ≤ OBJECT_LIMIT }
+    requires { FitInQuery q.now.classes }
     ensures { IfOk result (λ d. d ≡ map (ids_of (catalog_of store.now)) q.now.classes) }
 {
     let mut domains = Domains::new(alloc);
@@ -67,13 +68,12 @@ pub fn evaluate<'d, L: Ledger, M: Ledger>(
     requires resolved { IsResolved (resolved_view q.now) }
     requires fits { FitsItsClasses (world_in store.now regions.now) (resolved_view q.now) }
     requires domains { AreOfItsClasses (catalog_of store.now) (resolved_view q.now) d.now }
-    requires length { w.hi - w.lo ≤ SPAN_LIMIT }
+    requires length { IsQueryWindow w }
     ensures rows { IfOk result (λ r. (b : ℕ → ℕ) → IsIn d.now b → (t : ℕ) → table_has spans_have r b t
         ≡ (within w.lo w.hi t && holds_full (world_in store.now regions.now) (resolved_view q.now) w.hi b t)) }
     ensures vars { IfOk result (λ r. r.vars ≡ between 0 (length q.now.classes)) }
-    ensures frame { IfOk result (λ r. frame r ≡ frame_of d.now w.lo w.hi) }
-    ensures least { reads.old ≤ reads.new }
-    ensures most { reads.new ≤ reads.old + query_reads (domain_size d.now) (w.hi + 1 - w.lo) (resolved_view q.now) }
+    ensures frame { IfOk result (λ r. HasFrame r d.now w.lo w.hi) }
+    ensures reads { StepsAtMost reads.old reads.new (query_reads (domain_size d.now) (w.hi + 1 - w.lo) (resolved_view q.now)) }
 {
     if !can_hold(q, d, store, regions, w) {
         return Ok(no_rows(alloc, d, w));
@@ -91,7 +91,7 @@ pub fn evaluate<'d, L: Ledger, M: Ledger>(
 fn no_rows<'d>(alloc: Global, d: &'d Domains, w: Window) -> Relation<'d, IntervalSet>
     ensures ticks { (b : ℕ → ℕ) (t : ℕ) → table_has spans_have result b t ≡ false }
     ensures vars { result.vars ≡ between 0 (length d.now) }
-    ensures frame { frame result ≡ frame_of d.now w.lo w.hi }
+    ensures frame { HasFrame result d.now w.lo w.hi }
 {
     let vars = &[0, 1, 2, 3][..d.len()];
     Relation::empty(alloc, vars, d, w)
@@ -112,13 +112,12 @@ fn evaluate_all<'d, L: Ledger, M: Ledger>(
     requires resolved { IsResolved (resolved_view q.now) }
     requires fits { FitsItsClasses (world_in store.now regions.now) (resolved_view q.now) }
     requires domains { AreOfItsClasses (catalog_of store.now) (resolved_view q.now) d.now }
-    requires length { w.hi - w.lo ≤ SPAN_LIMIT }
+    requires length { IsQueryWindow w }
     ensures rows { IfOk result (λ r. (b : ℕ → ℕ) → IsIn d.now b → (t : ℕ) → table_has spans_have r b t
         ≡ (within w.lo w.hi t && holds_full (world_in store.now regions.now) (resolved_view q.now) w.hi b t)) }
     ensures vars { IfOk result (λ r. r.vars ≡ between 0 (length q.now.classes)) }
-    ensures frame { IfOk result (λ r. frame r ≡ frame_of d.now w.lo w.hi) }
-    ensures least { reads.old ≤ reads.new }
-    ensures most { reads.new ≤ reads.old + query_reads (domain_size d.now) (w.hi + 1 - w.lo) (resolved_view q.now) }
+    ensures frame { IfOk result (λ r. HasFrame r d.now w.lo w.hi) }
+    ensures reads { StepsAtMost reads.old reads.new (query_reads (domain_size d.now) (w.hi + 1 - w.lo) (resolved_view q.now)) }
 {
     fitting_queries_can_be_asked();
     let world = StoredWorld { store, regions };
@@ -145,7 +144,7 @@ pub fn widened<'d>(
     ensures inside { IfOk result (λ r. (b : ℕ → ℕ) (t : ℕ) → table_has spans_have r b t ≡ true → (v : ℕ)
         → has_id rows.entry.vars v ≡ true → has_id (domain_of rows.entry.domains v) (b v) ≡ true) }
     ensures vars { IfOk result (λ r. r.vars ≡ rows.entry.vars) }
-    ensures frame { IfOk result (λ r. frame r ≡ frame_of d.now rows.entry.lo rows.entry.hi) }
+    ensures frame { IfOk result (λ r. HasFrame r d.now rows.entry.lo rows.entry.hi) }
 {
     rows.rows_stand_in_order();
     let made = rows.widen(alloc, d)?;
@@ -172,12 +171,11 @@ pub fn evaluate_alone<L: Ledger, M: Ledger>(
     requires resolved { IsResolved (resolved_view q.now) }
     requires fits { FitsItsClasses (world_in store.now regions.now) (resolved_view q.now) }
     requires object { AreOfItsClasses (catalog_of store.now) (resolved_view q.now) ((id ∷ []) ∷ []) }
-    requires length { w.hi - w.lo ≤ SPAN_LIMIT }
+    requires length { IsQueryWindow w }
     ensures ticks { IfOk result (λ s. (b : ℕ → ℕ) → b 0 ≡ id → (t : ℕ) → spans_have s t
         ≡ (within w.lo w.hi t && holds_full (world_in store.now regions.now) (resolved_view q.now) w.hi b t)) }
-    ensures least { reads.old ≤ reads.new }
-    ensures most { reads.new ≤ reads.old
-        + query_reads (domain_size ((id ∷ []) ∷ [])) (w.hi + 1 - w.lo) (resolved_view q.now) }
+    ensures reads { StepsAtMost reads.old reads.new
+        (query_reads (domain_size ((id ∷ []) ∷ [])) (w.hi + 1 - w.lo) (resolved_view q.now)) }
 {
     if !can_hold_alone(alloc, q, id, store, regions, w) {
         return Ok(IntervalSet::empty(alloc));

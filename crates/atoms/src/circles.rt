@@ -1,15 +1,15 @@
 //! The ticks of a part at which some objects fit a circle.
-ghost use Rattle.std.specs.Prelude.{◌≡◌, ◌==◌, ◌+◌, ◌-◌, ◌<◌, ◌≤◌, ◌&&◌, ℕ, pos, ◌≤ℤ◌, true, false, All, None, Some, IfSome, IsTrue, length, option_map, take};
+ghost use Rattle.std.specs.Prelude.{◌≡◌, ◌==◌, ◌+◌, ◌-◌, ◌<◌, ◌≤◌, ◌&&◌, ℕ, true, false, All, None, Some, IfSome, IsTrue, length, option_map, take};
 ghost use Rattle.std.specs.List.{list_any};
 ghost use Rattle.std.specs.Option.{option_map_or};
 ghost use Rattle.distance_crossing.specs.NearTicks.{positions_after};
-ghost use Rattle.geometry.specs.Circle.{fits};
-ghost use Rattle.geometry.specs.declared.limits.TheConstants.{RADIUS_LIMIT};
+ghost use Rattle.geometry.specs.Circle.{IsRadius, fits};
 ghost use Rattle.linear_crossing.specs.Moving.{IsInReach};
 ghost use Rattle.meaning.specs.Atom.{positions_of};
 ghost use Rattle.tick_set.specs.Ticks.{within};
-ghost use Rattle.tick_set.specs.declared.spans.TheConstants.{SPAN_LIMIT};
+ghost use Rattle.tick_set.specs.Windows.{IsQuerySpan};
 ghost use Rattle.formula_shape.specs.declared.limits.TheConstants.{OBJECT_LIMIT};
+ghost use Rattle.formula_shape.specs.Sizes.{FitInQuery};
 ghost use Rattle.atoms.specs.Found.{AreRunsWhere};
 ghost use Rattle.atoms.specs.Naming.{asks_place};
 ghost use Rattle.atoms.specs.Parts.{AreSteady, epoch_of, shown};
@@ -20,7 +20,6 @@ use crate::positions::line_of;
 use distance_crossing::{Triple, together};
 use fixed_point::{Fix, Point, Slope};
 use formula::OBJECT_LIMIT;
-use geometry::RADIUS_LIMIT;
 use linear_crossing::Line;
 use std::sync::ledger::Ledger;
 use steps::Steps;
@@ -34,12 +33,11 @@ struct Lines {
 
 /// The ticks of the part at which the objects of the variables have places that fit a circle of radius `r`.
 pub fn in_circle<M: Ledger>(r: Fix, vs: &[u8], part: &Part, probes: &mut Steps<M>) -> Triple
-    requires least { pos 0 ≤ℤ r }
-    requires most { r ≤ℤ pos RADIUS_LIMIT }
-    requires few { length vs.now ≤ OBJECT_LIMIT }
+    requires radius { IsRadius r }
+    requires few { FitInQuery vs.now }
     requires steady { AreSteady part.now }
     requires asked { IsTrue (asks_place part.now.asked) }
-    requires length { part.now.span.hi - part.now.span.lo ≤ SPAN_LIMIT }
+    requires length { IsQuerySpan part.now.span }
     ensures runs { AreRunsWhere (λ t. within part.now.span.lo part.now.span.hi t
         && option_map_or (fits r) (positions_of (shown part.now) t vs.now) false) result }
     ensures cost { probes.new ≤ probes.old + 360 }
@@ -53,7 +51,7 @@ pub fn in_circle<M: Ledger>(r: Fix, vs: &[u8], part: &Part, probes: &mut Steps<M
 
 // The lines of the objects of the variables. None where one of them has no place.
 fn lines_of(vs: &[u8], part: &Part) -> Option<Lines>
-    requires few { length vs.now ≤ OBJECT_LIMIT }
+    requires few { FitInQuery vs.now }
     requires steady { AreSteady part.now }
     requires asked { IsTrue (asks_place part.now.asked) }
     ensures count { IfSome result (λ lines. lines.len ≤ OBJECT_LIMIT) }

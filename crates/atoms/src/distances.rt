@@ -6,7 +6,7 @@ ghost use Rattle.formula.specs.Resolved.{is_within};
 ghost use Rattle.linear_crossing.specs.Moving.{IsInReach, position_after};
 ghost use Rattle.meaning.specs.Atom.{distance_holds, position_in};
 ghost use Rattle.tick_set.specs.Ticks.{within};
-ghost use Rattle.tick_set.specs.declared.spans.TheConstants.{SPAN_LIMIT};
+ghost use Rattle.tick_set.specs.Windows.{IsQuerySpan, IsQueryWindow};
 ghost use Rattle.atoms.specs.Found.{AreRunsWhere};
 ghost use Rattle.atoms.specs.Naming.{asks_place};
 ghost use Rattle.atoms.specs.Parts.{AreSteady, epoch_of, shown};
@@ -35,7 +35,7 @@ pub fn at_distance<M: Ledger>(
     requires sized { IsTrue (is_within READ_LIMIT c) }
     requires steady { AreSteady part.now }
     requires asked { IsTrue (asks_place part.now.asked) }
-    requires length { part.now.span.hi - part.now.span.lo ≤ SPAN_LIMIT }
+    requires length { IsQuerySpan part.now.span }
     ensures runs { AreRunsWhere (λ t. within part.now.span.lo part.now.span.hi t
         && distance_holds op c (position_in t (shown part.now from t)) (position_in t (shown part.now to t))) result }
     ensures cost { probes.new ≤ probes.old + (if nat_le (part.now.span.hi - part.now.span.lo) SHORT_WINDOW then 47 else 63) }
@@ -63,7 +63,7 @@ pub fn apart<M: Ledger>(
     requires first_in_reach { IsInReach first.now }
     requires second_in_reach { IsInReach second.now }
     requires sized { IsTrue (is_within READ_LIMIT c) }
-    requires length { w.hi - w.lo ≤ SPAN_LIMIT }
+    requires length { IsQueryWindow w }
     ensures runs { AreRunsWhere (λ t. within w.lo w.hi t
         && distance_holds op c (Some (position_after first.now (t - w.lo))) (Some (position_after second.now (t - w.lo)))) result }
     ensures cost { probes.new ≤ probes.old + (if nat_le (w.hi - w.lo) SHORT_WINDOW then 47 else 63) }

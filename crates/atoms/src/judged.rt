@@ -3,7 +3,7 @@ ghost use Rattle.std.specs.Prelude.{◌≡◌, ◌+◌, ◌-◌, ◌≤◌, ◌&
 ghost use Rattle.formula.specs.Variables.{atom_has};
 ghost use Rattle.meaning.specs.Atom.{atom_holds};
 ghost use Rattle.tick_set.specs.Ticks.{within};
-ghost use Rattle.tick_set.specs.declared.spans.TheConstants.{SPAN_LIMIT};
+ghost use Rattle.tick_set.specs.Windows.{IsQuerySpan};
 ghost use Rattle.atoms.specs.Found.{AreRunsWhere};
 ghost use Rattle.atoms.specs.Naming.{asks_atom};
 ghost use Rattle.atoms.specs.Parts.{AreSteady, epoch_of, shown};
@@ -32,7 +32,7 @@ pub fn judged<M: Ledger>(
     requires sized { IsTrue (is_sized a.now) }
     requires steady { AreSteady part.now }
     requires asked { IsTrue (asks_atom part.now.asked a.now) }
-    requires length { part.now.span.hi - part.now.span.lo ≤ SPAN_LIMIT }
+    requires length { IsQuerySpan part.now.span }
     ensures runs { AreRunsWhere (λ t. within part.now.span.lo part.now.span.hi t
         && atom_holds regions.now (shown part.now) a.now env.now t) result }
     ensures cost { probes.new ≤ probes.old + probe_limit a.now (part.now.span.hi - part.now.span.lo) }

@@ -1,14 +1,15 @@
 //! The timelines of the variables of an atom or a term, and the common parts of these timelines.
 ghost use Rattle.std.specs.Prelude.{◌≡◌, ◌+◌, ◌≤◌, ℕ, true, All, IfSome, None, length, map, slice_index, slice_index_or, take, unwrap_or};
 ghost use Rattle.std.specs.Option.{option_copied};
-ghost use Rattle.tick_set.specs.declared.spans.TheConstants.{LAST_TICK};
+ghost use Rattle.tick_set.specs.Ticks.{IsTick};
 ghost use Rattle.motion.specs.Timeline.{state_at};
 ghost use Rattle.object_store.specs.Contents.{history_of};
-ghost use Rattle.courses.specs.Parts.{AreBegun, epochs_of_each};
+ghost use Rattle.courses.specs.Parts.{AreBegun, AreFewTimelines, epochs_of_each};
 ghost use Rattle.motion.specs.Pieces.{is_asked};
 ghost use Rattle.meaning.specs.Trace.{trace_of};
 ghost use Rattle.meaning.specs.Value.{cell_in};
 ghost use Rattle.atoms.specs.Parts.{AreAscending, AreSteady, HasObject, IsPartFrom, IsSteadyCell, beside, epoch_of, epochs_of, held_cells};
+ghost use Rattle.exact.specs.Lists.{SameLength};
 
 use courses::{MOST_TIMELINES, common_for};
 use formula::Binding;
@@ -16,7 +17,7 @@ use motion::{Asked, Cell, Epoch, Timeline};
 use object_store::Store;
 use std::sync::ledger::Ledger;
 use steps::Steps;
-use tick_set::{LAST_TICK, Span};
+use tick_set::Span;
 
 /// Ticks in which the object of each of some variables has one epoch in force, or none yet, and each asked
 /// dynamic attribute moves by one slope.
@@ -110,12 +111,12 @@ pub fn part_from<'a>(
     at: u32,
     last: u32,
 ) -> Part<'a>
-    requires few { length timelines.now ≤ MOST_TIMELINES }
-    requires same { length variables.now ≡ length timelines.now }
+    requires few { AreFewTimelines timelines.now }
+    requires same { SameLength variables.now timelines.now }
     requires ascending { AreAscending variables.now }
     requires begun { AreBegun (epochs_of_each timelines.now) at begun.old }
     requires order { at ≤ last }
-    requires tick { last ≤ LAST_TICK }
+    requires tick { IsTick last }
     ensures part { IsPartFrom variables.now asked.entry (epochs_of_each timelines.now) at last result }
     ensures begun { AreBegun (epochs_of_each timelines.now) (result.span.hi + 1) begun.new }
 {

@@ -1,9 +1,9 @@
 //! The ticks of a window at which an object is present, and those at which it isn't.
-ghost use Rattle.std.specs.Prelude.{◌≡◌, ◌+◌, ◌<◌, ◌≤◌, ◌&&◌, not, ℕ, true, is_some, length, option_to_list, IfOk, IsTrue};
+ghost use Rattle.std.specs.Prelude.{◌≡◌, ◌+◌, ◌<◌, ◌≤◌, ◌&&◌, not, ℕ, true, is_some, option_to_list, IfOk, IsTrue};
 ghost use Rattle.std.specs.Option.{option_copied};
 ghost use Rattle.history.specs.History.{cells_at};
 ghost use Rattle.motion.specs.Timeline.{state_at};
-ghost use Rattle.object_store.specs.Contents.{history_of};
+ghost use Rattle.object_store.specs.Contents.{IsObjectId, history_of};
 ghost use Rattle.tick_set.specs.Runs.{IsRuns, spans_have};
 ghost use Rattle.tick_set.specs.Ticks.{within};
 ghost use Rattle.atoms.specs.Presence.{is_as, is_there};
@@ -26,7 +26,7 @@ pub fn presence<L: Ledger>(
     w: Window,
     reads: &mut Steps<L>,
 ) -> Result<IntervalSet, AllocError>
-    requires { id < length store.now.objects }
+    requires { IsObjectId store.now id }
     ensures ticks { IfOk result (λ s. (t : ℕ) → spans_have s t
         ≡ (within w.lo w.hi t && is_some (cells_at (history_of store.now) id t))) }
     ensures step { reads.new ≡ reads.old + 1 }
@@ -45,7 +45,7 @@ pub fn absence<L: Ledger>(
     w: Window,
     reads: &mut Steps<L>,
 ) -> Result<IntervalSet, AllocError>
-    requires { id < length store.now.objects }
+    requires { IsObjectId store.now id }
     ensures ticks { IfOk result (λ s. (t : ℕ) → spans_have s t
         ≡ (within w.lo w.hi t && not (is_some (cells_at (history_of store.now) id t)))) }
     ensures step { reads.new ≡ reads.old + 1 }

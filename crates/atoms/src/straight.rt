@@ -6,7 +6,7 @@ ghost use Rattle.fixed_point.specs.declared.number.TheConstants.{READ_LIMIT};
 ghost use Rattle.formula.specs.Resolved.{is_within};
 ghost use Rattle.meaning.specs.Atom.{atom_holds, distance_holds, position_in};
 ghost use Rattle.tick_set.specs.Ticks.{within};
-ghost use Rattle.tick_set.specs.declared.spans.TheConstants.{SPAN_LIMIT};
+ghost use Rattle.tick_set.specs.Windows.{IsQueryWindow};
 ghost use Rattle.atoms.specs.Found.{AreRunsWhere};
 ghost use Rattle.atoms.specs.Parts.{trace_by};
 ghost use Rattle.atoms.specs.Probes.{probe_limit};
@@ -42,7 +42,7 @@ pub fn straight_ticks<M: Ledger>(
     probes: &mut Steps<M>,
 ) -> Option<Triple>
     requires sized { IsTrue (is_sized a.now) }
-    requires length { w.hi - w.lo ≤ SPAN_LIMIT }
+    requires length { IsQueryWindow w }
     ensures runs { IfSome result (λ found. AreRunsWhere (λ t. within w.lo w.hi t
         && atom_holds regions.now (trace_by variables.now (epochs_of_each timelines.now)) a.now env.now t) found) }
     ensures cost { IfSome result (λ found. probes.new ≤ probes.old
@@ -84,7 +84,7 @@ fn straight_distance<M: Ledger>(
     probes: &mut Steps<M>,
 ) -> Option<Triple>
     requires sized { IsTrue (is_within READ_LIMIT c) }
-    requires length { w.hi - w.lo ≤ SPAN_LIMIT }
+    requires length { IsQueryWindow w }
     ensures runs { IfSome result (λ found. AreRunsWhere (λ t. within w.lo w.hi t && distance_holds op c
         (position_in t (trace_by variables.now (epochs_of_each timelines.now) from t))
         (position_in t (trace_by variables.now (epochs_of_each timelines.now) to t))) found) }

@@ -1,7 +1,7 @@
 //! The course of a term in a part.
 ghost use Rattle.std.specs.Prelude.{◌≡◌, ℕ, ◌<◌, ◌≤◌, ◌+◌, ◌*◌, pos, IfSome, IsTrue, None, length, map, nat_le, option_map, option_and_then, unwrap_or};
 ghost use Rattle.std.specs.List.{fold, list_all};
-ghost use Rattle.tick_set.specs.declared.spans.TheConstants.{LAST_TICK};
+ghost use Rattle.tick_set.specs.Ticks.{IsTick};
 ghost use Rattle.formula_shape.specs.declared.limits.TheConstants.{FACTOR_LIMIT, TIMES_LIMIT};
 ghost use Rattle.formula.specs.declared.value.Value.TheVariants as values;
 ghost use Rattle.motion.specs.Dynamic.{slope_at, value_at};
@@ -193,7 +193,7 @@ fn course_of_part(name: SubName, vector: &Vector, span: Span) -> Course
 }
 
 fn ticks_in_thousandths(tick: u32) -> Course
-    requires { tick ≤ LAST_TICK }
+    requires { IsTick tick }
     ensures value { (lo t : ℕ) → course_value lo t result ≡ values.Num (pos (1000 * tick)) }
     ensures small { IsUnitCourse result }
 {
@@ -210,7 +210,7 @@ fn slope_in_force(vector: &Vector, tick: u32) -> Course
 
 /// TIME in a part that begins at this tick.
 pub fn time_from(lo: u32) -> Course
-    requires { lo ≤ LAST_TICK }
+    requires { IsTick lo }
     ensures value { (t : ℕ) → course_value lo t result ≡ values.Num (pos (1000 * t)) }
     ensures small { IsUnitCourse result }
 {

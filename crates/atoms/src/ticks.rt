@@ -1,6 +1,6 @@
 //! The ticks of a window at which an atom holds.
 ghost use Rattle.std.specs.Prelude.{◌≡◌, ◌+◌, ◌-◌, ◌*◌, ◌≤◌, ◌&&◌, ℕ, true, IfOk, IsTrue, length, slice_index};
-ghost use Rattle.courses.specs.Parts.{epochs_of_each, pieces_of_all};
+ghost use Rattle.courses.specs.Parts.{AreFewTimelines, epochs_of_each, pieces_of_all};
 ghost use Rattle.formula.specs.Variables.{atom_has};
 ghost use Rattle.meaning.specs.Atom.{atom_holds};
 ghost use Rattle.meaning.specs.Reads.{atom_variables};
@@ -8,10 +8,11 @@ ghost use Rattle.meaning.specs.Trace.{trace_of};
 ghost use Rattle.object_store.specs.Contents.{history_of};
 ghost use Rattle.tick_set.specs.Runs.{IsRuns, spans_have};
 ghost use Rattle.tick_set.specs.Ticks.{within};
-ghost use Rattle.tick_set.specs.declared.spans.TheConstants.{SPAN_LIMIT};
+ghost use Rattle.tick_set.specs.Windows.{IsQueryWindow};
 ghost use Rattle.atoms.specs.Parts.{HasObject, trace_by};
 ghost use Rattle.atoms.specs.Probes.{atom_timelines, probe_limit};
 ghost use Rattle.atoms.specs.Sizes.{is_sized};
+ghost use Rattle.exact.specs.Lists.{SameLength};
 
 use crate::found::{append, runs_of};
 use crate::judged::judged;
@@ -29,7 +30,7 @@ use polygon::Regions;
 use std::alloc::{AllocError, Global};
 use std::sync::ledger::Ledger;
 use steps::Steps;
-use tick_set::{Runs, SPAN_LIMIT, Span, Window};
+use tick_set::{Runs, Span, Window};
 
 /// The ticks of the window at which the atom holds of the objects of the binding. Each variable of the atom
 /// has an object there. It fails only where memory is out.
@@ -49,7 +50,7 @@ pub fn atom_ticks<L: Ledger, M: Ledger>(
 ) -> Result<IntervalSet, AllocError>
     requires sized { IsTrue (is_sized a.now) }
     requires bound { (v : ℕ) → atom_has v a.now ≡ true → HasObject b.now store.now v }
-    requires length { w.hi - w.lo ≤ SPAN_LIMIT }
+    requires length { IsQueryWindow w }
     ensures ticks { IfOk result (λ s. (t : ℕ) → spans_have s t ≡ (within w.lo w.hi t
         && atom_holds regions.now (trace_of (history_of store.now) (slice_index b.now)) a.now env.now t)) }
     ensures reads { reads.new ≡ reads.old + length (atom_variables a.now) }
@@ -75,7 +76,7 @@ fn ticks_of<'x, L: Ledger, M: Ledger>(
 ) -> Result<IntervalSet, AllocError>
     requires sized { IsTrue (is_sized a.now) }
     requires bound { (v : ℕ) → atom_has v a.now ≡ true → HasObject b.now world.now.store.now v }
-    requires length { w.hi - w.lo ≤ SPAN_LIMIT }
+    requires length { IsQueryWindow w }
     ensures ticks { IfOk result (λ s. (t : ℕ) → spans_have s t ≡ (within w.lo w.hi t
         && atom_holds world.now.regions.now (trace_of (history_of world.now.store.now) (slice_index b.now)) a.now env.now t)) }
     ensures reads { reads.new ≡ reads.old + length (atom_variables a.now) }
@@ -112,9 +113,9 @@ fn atom_runs<'a, M: Ledger>(
 ) -> Result<Vec<Span>, AllocError>
     requires sized { IsTrue (is_sized a.now) }
     requires variables { variables.now ≡ atom_variables a.now }
-    requires few { length timelines.now ≤ MOST_TIMELINES }
-    requires same { length variables.now ≡ length timelines.now }
-    requires length { w.hi - w.lo ≤ SPAN_LIMIT }
+    requires few { AreFewTimelines timelines.now }
+    requires same { SameLength variables.now timelines.now }
+    requires length { IsQueryWindow w }
     ensures runs { IfOk result (λ runs. IsRuns (λ t. within w.lo w.hi t
         && atom_holds regions.now (trace_by variables.now (epochs_of_each timelines.now)) a.now env.now t) runs.items) }
     ensures cost { probes.new ≤ probes.old
@@ -139,9 +140,9 @@ fn runs_by_parts<'a, M: Ledger>(
 ) -> Result<Vec<Span>, AllocError>
     requires sized { IsTrue (is_sized a.now) }
     requires variables { variables.now ≡ atom_variables a.now }
-    requires few { length timelines.now ≤ MOST_TIMELINES }
-    requires same { length variables.now ≡ length timelines.now }
-    requires length { w.hi - w.lo ≤ SPAN_LIMIT }
+    requires few { AreFewTimelines timelines.now }
+    requires same { SameLength variables.now timelines.now }
+    requires length { IsQueryWindow w }
     ensures runs { IfOk result (λ runs. IsRuns (λ t. within w.lo w.hi t
         && atom_holds regions.now (trace_by variables.now (epochs_of_each timelines.now)) a.now env.now t) runs.items) }
     ensures cost { probes.new ≤ probes.old

@@ -2,7 +2,7 @@
 ghost use Rattle.std.specs.Prelude.{◌≡◌, ℕ, ◌*◌, ◌+◌, ◌^◌, ◌≤◌, pos, neg_ℤ, ◌+ℤ◌, ◌-ℤ◌, ◌*ℤ◌, unsigned_abs, if◌then◌else◌};
 ghost use Rattle.linear_crossing.specs.Zones.{line_at};
 ghost use Rattle.formula_shape.specs.declared.limits.TheConstants.{FACTOR_LIMIT, TIMES_LIMIT};
-ghost use Rattle.tick_set.specs.declared.spans.TheConstants.{LAST_TICK};
+ghost use Rattle.tick_set.specs.Ticks.{IsTick};
 ghost use Rattle.atoms.specs.Courses.{IsTrendOf, IsUnitTrend};
 
 use exact::{minus, negated, plus, times};
@@ -79,7 +79,7 @@ impl Trend {
     /// The number so many ticks after the first.
     pub fn after(self, ticks: u32) -> i128
         requires small { IsTrendOf FACTOR_LIMIT self }
-        requires tick { ticks ≤ LAST_TICK }
+        requires tick { IsTick ticks }
         ensures { result ≡ self.rise *ℤ pos ticks +ℤ self.start }
     {
         plus(times(self.rise, i128::from(ticks)), self.start)

@@ -1,7 +1,8 @@
 //! The maximal runs of equal value of a term.
 ghost use Rattle.std.specs.Prelude.{◌≡◌, ◌+◌, ◌-◌, ◌≤◌, ℕ, ℤ, pos, ◌+ℤ◌, ◌*ℤ◌, true, unsigned_abs, Option, Some, IfSome, OnOk, IfOk, IsTrue, length, slice_index};
-ghost use Rattle.courses.specs.Parts.{epochs_of_each};
+ghost use Rattle.courses.specs.Parts.{AreFewTimelines, epochs_of_each};
 ghost use Rattle.fixed_point.specs.declared.number.TheConstants.{FIX_LIMIT};
+ghost use Rattle.fixed_point.specs.Sizes.{IsFix};
 ghost use Rattle.formula.specs.Variables.{term_has};
 ghost use Rattle.formula_shape.specs.declared.limits.TheConstants.{FACTOR_LIMIT};
 ghost use Rattle.formula.specs.declared.value.Value.{Value};
@@ -15,6 +16,7 @@ ghost use Rattle.atoms.specs.Courses.{IsCourseOf, IsTrendOf, course_value, value
 ghost use Rattle.atoms.specs.Parts.{AreAscending, HasObject, trace_by};
 ghost use Rattle.atoms.specs.Sizes.{is_sized_term};
 ghost use Rattle.atoms.specs.ValueRuns.{AreMaximalRuns, HasValuesInRange};
+ghost use Rattle.exact.specs.Lists.{SameLength};
 
 use crate::parts::{fill_timelines, part_from};
 use crate::terms::{Course, course_of};
@@ -98,8 +100,8 @@ fn term_runs<'a>(
     w: Window,
 ) -> Result<Vec<ValueRun>, AllocError>
     requires sized { IsTrue (is_sized_term term.now) }
-    requires few { length timelines.now ≤ MOST_TIMELINES }
-    requires same { length variables.now ≡ length timelines.now }
+    requires few { AreFewTimelines timelines.now }
+    requires same { SameLength variables.now timelines.now }
     requires ascending { AreAscending variables.now }
     requires in_range { HasValuesInRange
         (term_value (trace_by variables.now (epochs_of_each timelines.now)) term.now env.now) w.lo (w.hi + 1) }
@@ -195,7 +197,7 @@ fn append_each(runs: &mut Vec<ValueRun>, trend: Trend, span: Span) -> Result<(),
 
 // A number of thousandths as a value.
 fn number(thousandths: i128) -> Value
-    requires { unsigned_abs thousandths ≤ FIX_LIMIT }
+    requires { IsFix thousandths }
     ensures { result ≡ values.Num thousandths }
 {
     Value::Num(Fix::of(thousandths as i64).unwrap())

@@ -1,5 +1,5 @@
 //! The answer to a query where positions may be off.
-ghost use Rattle.std.specs.Prelude.{◌≡◌, ◌≤◌, ◌+◌, ◌-◌, IfOk};
+ghost use Rattle.std.specs.Prelude.{◌≡◌, ◌+◌, ◌-◌, IfOk};
 ghost use Rattle.answers.specs.Objects.{IsOfAcceptedWrites};
 ghost use Rattle.formula.specs.Resolved.{IsResolved};
 ghost use Rattle.formula.specs.Tree.{resolved_view};
@@ -7,8 +7,9 @@ ghost use Rattle.meaning.specs.Answer.{answer_where};
 ghost use Rattle.meaning.specs.Fits.{FitsItsClasses};
 ghost use Rattle.meaning.specs.Reads.{query_reads, sizes_of};
 ghost use Rattle.object_store.specs.Contents.{catalog_of};
-ghost use Rattle.tick_set.specs.declared.spans.TheConstants.{SPAN_LIMIT};
+ghost use Rattle.tick_set.specs.Windows.{IsQueryWindow};
 ghost use Rattle.blur.specs.Answered.{holds_blurred, told_in};
+ghost use Rattle.steps.specs.Counting.{StepsAtMost};
 
 use crate::asking::blurred;
 use crate::objects::BlurredWorld;
@@ -35,12 +36,11 @@ pub fn blurred_answer<L: Ledger, M: Ledger>(
     requires accepted { IsOfAcceptedWrites world.now.store.now }
     requires resolved { IsResolved (resolved_view q.now) }
     requires fits { FitsItsClasses (told_in world.now) (resolved_view q.now) }
-    requires length { w.hi - w.lo ≤ SPAN_LIMIT }
+    requires length { IsQueryWindow w }
     ensures rows { IfOk result (λ a. a ≡ answer_where (told_in world.now) (resolved_view q.now)
         (holds_blurred world.now (resolved_view q.now) w.hi) w.lo w.hi) }
-    ensures least { reads.old ≤ reads.new }
-    ensures most { reads.new ≤ reads.old
-        + query_reads (sizes_of (catalog_of world.now.store.now) (resolved_view q.now)) (w.hi + 1 - w.lo) (resolved_view q.now) }
+    ensures reads { StepsAtMost reads.old reads.new
+        (query_reads (sizes_of (catalog_of world.now.store.now) (resolved_view q.now)) (w.hi + 1 - w.lo) (resolved_view q.now)) }
 {
     let domains = domains_of(alloc, q, world.store)?;
     let full = blurred(alloc, q, &domains, world, w, reads, probes)?;

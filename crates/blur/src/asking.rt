@@ -1,5 +1,5 @@
 //! Queries over a store and its regions, where positions may be off.
-ghost use Rattle.std.specs.Prelude.{◌≡◌, ◌≤◌, ◌+◌, ◌-◌, ℕ, true, false, length, IfOk, List};
+ghost use Rattle.std.specs.Prelude.{◌≡◌, ◌+◌, ◌-◌, ℕ, true, false, length, IfOk, List};
 ghost use Rattle.answers.specs.Objects.{AreOfItsClasses, IsOfAcceptedWrites};
 ghost use Rattle.evaluator.specs.Rows.{AreRowsWhere};
 ghost use Rattle.formula.specs.Resolved.{IsResolved};
@@ -12,9 +12,10 @@ ghost use Rattle.relation.specs.Frames.{IsIn, domain_size};
 ghost use Rattle.relation.specs.Rows.{table_has};
 ghost use Rattle.tick_set.specs.Runs.{spans_have};
 ghost use Rattle.tick_set.specs.Ticks.{between, within};
-ghost use Rattle.tick_set.specs.declared.spans.TheConstants.{SPAN_LIMIT};
+ghost use Rattle.tick_set.specs.Windows.{IsQueryWindow};
 ghost use Rattle.worlds.specs.Moved.{Move, is_world};
 ghost use Rattle.blur.specs.Answered.{HoldsInEachWorld, holds_blurred, holds_moved, told_in};
+ghost use Rattle.steps.specs.Counting.{StepsAtMost};
 
 use crate::objects::BlurredWorld;
 use answers::{fitting_queries_can_be_asked, widened};
@@ -48,7 +49,7 @@ pub fn blurred<'d, L: Ledger, M: Ledger>(
     requires resolved { IsResolved (resolved_view q.now) }
     requires fits { FitsItsClasses (told_in world.now) (resolved_view q.now) }
     requires domains { AreOfItsClasses (catalog_of world.now.store.now) (resolved_view q.now) d.now }
-    requires length { w.hi - w.lo ≤ SPAN_LIMIT }
+    requires length { IsQueryWindow w }
     ensures rows { IfOk result (AreRowsWhere spans_have d.now w.lo w.hi (between 0 (length q.now.classes))
         (holds_blurred world.now (resolved_view q.now) w.hi)) }
 
@@ -60,8 +61,7 @@ pub fn blurred<'d, L: Ledger, M: Ledger>(
         → IfOk result (λ r. (b : ℕ → ℕ) → IsIn d.now b → (t : ℕ) → within w.lo w.hi t ≡ true
         → (moves : List Move) → is_world world.now.blur.error moves ≡ true
         → holds_moved moves world.now (resolved_view q.now) w.hi b t ≡ true → table_has spans_have r b t ≡ true) }
-    ensures least { reads.old ≤ reads.new }
-    ensures most { reads.new ≤ reads.old + query_reads (domain_size d.now) (w.hi + 1 - w.lo) (resolved_view q.now) }
+    ensures reads { StepsAtMost reads.old reads.new (query_reads (domain_size d.now) (w.hi + 1 - w.lo) (resolved_view q.now)) }
 {
     worlds_lie_between();
     let rows = rows_narrowed(alloc, q, d, world, w, reads, probes)?;
@@ -82,11 +82,10 @@ fn rows_narrowed<'d, L: Ledger, M: Ledger>(
     requires resolved { IsResolved (resolved_view q.now) }
     requires fits { FitsItsClasses (told_in world.now) (resolved_view q.now) }
     requires domains { AreOfItsClasses (catalog_of world.now.store.now) (resolved_view q.now) d.now }
-    requires length { w.hi - w.lo ≤ SPAN_LIMIT }
+    requires length { IsQueryWindow w }
     ensures rows { IfOk result (AreRowsWhere spans_have d.now w.lo w.hi (between 0 (length q.now.classes))
         (holds_blurred world.now (resolved_view q.now) w.hi)) }
-    ensures least { reads.old ≤ reads.new }
-    ensures most { reads.new ≤ reads.old + query_reads (domain_size d.now) (w.hi + 1 - w.lo) (resolved_view q.now) }
+    ensures reads { StepsAtMost reads.old reads.new (query_reads (domain_size d.now) (w.hi + 1 - w.lo) (resolved_view q.now)) }
 {
     worlds_lie_between();
     let (store, regions, slack) = (world.store, world.regions, world.blur.slack());
@@ -113,11 +112,10 @@ fn rows_of_all<'d, L: Ledger, M: Ledger>(
     requires resolved { IsResolved (resolved_view q.now) }
     requires fits { FitsItsClasses (told_in world.now) (resolved_view q.now) }
     requires domains { AreOfItsClasses (catalog_of world.now.store.now) (resolved_view q.now) d.now }
-    requires length { w.hi - w.lo ≤ SPAN_LIMIT }
+    requires length { IsQueryWindow w }
     ensures rows { IfOk result (AreRowsWhere spans_have d.now w.lo w.hi (between 0 (length q.now.classes))
         (holds_blurred world.now (resolved_view q.now) w.hi)) }
-    ensures least { reads.old ≤ reads.new }
-    ensures most { reads.new ≤ reads.old + query_reads (domain_size d.now) (w.hi + 1 - w.lo) (resolved_view q.now) }
+    ensures reads { StepsAtMost reads.old reads.new (query_reads (domain_size d.now) (w.hi + 1 - w.lo) (resolved_view q.now)) }
 {
     fitting_queries_can_be_asked();
     let rows = full_rows(alloc, world, q, d, w, reads, probes)?;

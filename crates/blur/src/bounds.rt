@@ -1,8 +1,11 @@
 //! The squares of the least and of the greatest distance of two objects that move along lines.
 ghost use Rattle.std.specs.Prelude.{◌≡◌, ◌+◌, ◌*◌, ◌^◌, ◌≤◌, ℕ, ℤ, pos, ◌+ℤ◌, ◌-ℤ◌, ◌*ℤ◌, ◌≤ℤ◌, unsigned_abs};
 ghost use Rattle.fixed_point.specs.declared.number.TheConstants.{SLOPE_LIMIT};
+ghost use Rattle.fixed_point.specs.Sizes.{IsSlopeDifference};
 ghost use Rattle.linear_crossing.specs.declared.quad.TheConstants.{COORDINATE_LIMIT};
+ghost use Rattle.linear_crossing.specs.Moving.{IsCoordinateDifference};
 ghost use Rattle.tick_set.specs.declared.spans.TheConstants.{LAST_TICK};
+ghost use Rattle.tick_set.specs.Ticks.{IsTick};
 ghost use Rattle.blur.specs.Widened.{IsBetween, widened};
 
 use convex::Convex;
@@ -55,7 +58,7 @@ impl SquareBound {
     /// A number that the bound is at least at each tick up to `last`: the sum of the squares of what it is at least on each
     /// axis by itself. The two ends tell it where the objects stay on one side of each other on the axis.
     pub fn floor(&self, last: u32) -> i128
-        requires { last ≤ LAST_TICK }
+        requires { IsTick last }
         ensures { (k : ℕ) → k ≤ last → result ≤ℤ bound_after self.now k }
     {
         let x = least_size(self.x, self.dx, last, self.more, self.less);
@@ -106,16 +109,16 @@ impl Convex for SquareBound {
 // The first slope less the second.
 fn slope_apart(a: Slope, b: Slope) -> i64
     ensures value { result ≡ a -ℤ b }
-    ensures size { unsigned_abs result ≤ 2 * SLOPE_LIMIT }
+    ensures size { IsSlopeDifference result }
 {
     a.raw() - b.raw()
 }
 
 // What the size of a number, with so much more and so much less, is at least while some ticks pass.
 fn least_size(start: i64, step: i64, last: u32, more: u64, less: u64) -> u64
-    requires start_size { unsigned_abs start ≤ 2 * COORDINATE_LIMIT }
-    requires step_size { unsigned_abs step ≤ 2 * SLOPE_LIMIT }
-    requires tick { last ≤ LAST_TICK }
+    requires start_size { IsCoordinateDifference start }
+    requires step_size { IsSlopeDifference step }
+    requires tick { IsTick last }
     requires more_size { more ≤ 10 ^ 10 }
     ensures least { (k : ℕ) → k ≤ last → result ≤ widened more less (start +ℤ step *ℤ pos k) }
     ensures size { result ≤ 10 ^ 16 }
@@ -138,9 +141,9 @@ fn nearest_size(first: i64, end: i64) -> u64
 
 // The size of a number after some ticks, with so much more and so much less.
 fn size_after(start: i64, step: i64, ticks: u32, more: u64, less: u64) -> u64
-    requires start_size { unsigned_abs start ≤ 2 * COORDINATE_LIMIT }
-    requires step_size { unsigned_abs step ≤ 2 * SLOPE_LIMIT }
-    requires tick { ticks ≤ LAST_TICK }
+    requires start_size { IsCoordinateDifference start }
+    requires step_size { IsSlopeDifference step }
+    requires tick { IsTick ticks }
     requires more_size { more ≤ 10 ^ 10 }
     ensures value { result ≡ widened more less (start +ℤ step *ℤ pos ticks) }
     ensures size { result ≤ 10 ^ 16 }
@@ -151,9 +154,9 @@ fn size_after(start: i64, step: i64, ticks: u32, more: u64, less: u64) -> u64
 
 // A number that changes by so much at each tick, after some ticks.
 fn place_after(start: i64, step: i64, ticks: u32) -> i64
-    requires start_size { unsigned_abs start ≤ 2 * COORDINATE_LIMIT }
-    requires step_size { unsigned_abs step ≤ 2 * SLOPE_LIMIT }
-    requires tick { ticks ≤ LAST_TICK }
+    requires start_size { IsCoordinateDifference start }
+    requires step_size { IsSlopeDifference step }
+    requires tick { IsTick ticks }
     ensures value { result ≡ start +ℤ step *ℤ pos ticks }
     ensures size { unsigned_abs result ≤ 2 * COORDINATE_LIMIT + 2 * SLOPE_LIMIT * LAST_TICK }
 {
@@ -162,8 +165,8 @@ fn place_after(start: i64, step: i64, ticks: u32) -> i64
 
 // How far something comes by a step at each of these ticks.
 fn way(step: i64, ticks: u32) -> i64
-    requires step_size { unsigned_abs step ≤ 2 * SLOPE_LIMIT }
-    requires tick { ticks ≤ LAST_TICK }
+    requires step_size { IsSlopeDifference step }
+    requires tick { IsTick ticks }
     ensures value { result ≡ step *ℤ pos ticks }
     ensures size { unsigned_abs result ≤ 2 * SLOPE_LIMIT * LAST_TICK }
 {

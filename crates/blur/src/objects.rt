@@ -1,9 +1,9 @@
 //! The ticks of a window at which objects of a store that may be off are in a region, or so far apart.
-ghost use Rattle.std.specs.Prelude.{◌≡◌, ◌+◌, ◌<◌, ◌&&◌, ◌==◌, ℕ, false, length, IfOk, if◌then◌else◌};
+ghost use Rattle.std.specs.Prelude.{◌≡◌, ◌+◌, ◌<◌, ◌&&◌, ◌==◌, ℕ, false, IfOk, if◌then◌else◌};
 ghost use Rattle.std.specs.Option.{option_map_or};
 ghost use Rattle.history.specs.History.{cells_at};
 ghost use Rattle.meaning.specs.Atom.{position_in};
-ghost use Rattle.object_store.specs.Contents.{history_of};
+ghost use Rattle.object_store.specs.Contents.{IsObjectId, history_of};
 ghost use Rattle.tick_set.specs.Runs.{spans_have};
 ghost use Rattle.tick_set.specs.Ticks.{within};
 ghost use Rattle.worlds.specs.Blurred.{distance_holds_by};
@@ -40,7 +40,7 @@ pub fn region_ticks<L: Ledger>(
     w: Window,
     reads: &mut Steps<L>,
 ) -> Result<IntervalSet, AllocError>
-    requires { id < length world.now.store.now.objects }
+    requires { IsObjectId world.now.store.now id }
     ensures ticks { IfOk result (λ s. (t : ℕ) → spans_have s t ≡ (within w.lo w.hi t
         && option_map_or (is_on_side inside world.now.blur.sure world.now.blur.error world.now.regions.now n)
         (position_in t (cells_at (history_of world.now.store.now) id t)) false)) }
@@ -64,8 +64,8 @@ pub fn distance_ticks<L: Ledger>(
     w: Window,
     reads: &mut Steps<L>,
 ) -> Result<IntervalSet, AllocError>
-    requires first { first < length world.now.store.now.objects }
-    requires second { second < length world.now.store.now.objects }
+    requires first { IsObjectId world.now.store.now first }
+    requires second { IsObjectId world.now.store.now second }
     ensures ticks { IfOk result (λ s. (t : ℕ) → spans_have s t ≡ (within w.lo w.hi t
         && distance_holds_by (comparison world.now.blur.sure) (if first == second then 0 else world.now.blur.error) op c
         (position_in t (cells_at (history_of world.now.store.now) first t))
@@ -89,7 +89,7 @@ fn itself_ticks<L: Ledger>(
     w: Window,
     reads: &mut Steps<L>,
 ) -> Result<IntervalSet, AllocError>
-    requires { id < length world.now.store.now.objects }
+    requires { IsObjectId world.now.store.now id }
     ensures ticks { IfOk result (λ s. (t : ℕ) → spans_have s t ≡ (within w.lo w.hi t
         && distance_holds_by (comparison world.now.blur.sure) 0 op c
         (position_in t (cells_at (history_of world.now.store.now) id t))
@@ -113,8 +113,8 @@ fn apart_ticks<L: Ledger>(
     w: Window,
     reads: &mut Steps<L>,
 ) -> Result<IntervalSet, AllocError>
-    requires first { first < length world.now.store.now.objects }
-    requires second { second < length world.now.store.now.objects }
+    requires first { IsObjectId world.now.store.now first }
+    requires second { IsObjectId world.now.store.now second }
     ensures ticks { IfOk result (λ s. (t : ℕ) → spans_have s t ≡ (within w.lo w.hi t
         && distance_holds_by (comparison world.now.blur.sure) world.now.blur.error op c
         (position_in t (cells_at (history_of world.now.store.now) first t))

@@ -1,5 +1,5 @@
 //! What a store and its regions tell of atoms, of terms and of the presence of objects, where positions may be off.
-ghost use Rattle.std.specs.Prelude.{◌≡◌, ◌≤◌, ◌+◌, ◌<◌, ◌&&◌, ℕ, IfOk, is_some, length, slice_index};
+ghost use Rattle.std.specs.Prelude.{◌≡◌, ◌<◌, ◌&&◌, ℕ, IfOk, is_some, length, slice_index};
 ghost use Rattle.std.proofs.Common.{ap};
 ghost use Rattle.atoms.specs.Asked.{CanAskAtom, CanAskTerm, world_in};
 ghost use Rattle.history.specs.History.{cells_at};
@@ -16,6 +16,7 @@ ghost use Rattle.worlds.proofs.CallerLemmas.{blurred_sees};
 ghost use Rattle.blur.specs.Named.{blurred_alike};
 ghost use Rattle.blur.specs.World.{blurred_by};
 ghost use Rattle.exact.proofs.Naturals.{at_most_in_turn};
+ghost use Rattle.steps.specs.Counting.{StepsAtMost};
 
 use crate::objects::{BlurredWorld, distance_ticks, region_ticks};
 use atoms::{absence, atom_ticks, value_runs};
@@ -117,8 +118,7 @@ fn blurred_ticks<L: Ledger, M: Ledger>(
     requires { CanAskAtom world.now.store.now w.lo w.hi (slice_index binding.now) atom.now }
     ensures ticks { IfOk result (λ s. (t : ℕ) → spans_have s t ≡ (within w.lo w.hi t
         && (blurred_by world.now.blur world.now.store.now world.now.regions.now (slice_index binding.now)).atom atom.now env.now t)) }
-    ensures least { reads.old ≤ reads.new }
-    ensures most { reads.new ≤ reads.old + length (atom_variables atom.now) }
+    ensures reads { StepsAtMost reads.old reads.new (length (atom_variables atom.now)) }
 {
     match atom {
         RAtom::Inside(v, n) => region_ticks(

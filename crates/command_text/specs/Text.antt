@@ -1,5 +1,5 @@
 -- The canonical line of a command: its words with one space between.
-use Rattle.std.specs.Prelude.{ℕ, ℤ, Bool, Option, None, Some, List, [], ◌∷◌, ◌++◌, drop, codes, if◌then◌else◌}
+use Rattle.std.specs.Prelude.{ℕ, ℤ, Bool, Option, None, Some, List, [], ◌∷◌, ◌++◌, drop, codes, if◌then◌else◌, ◌≡◌}
 use Rattle.std.specs.List.{flat_map}
 use Rattle.std.specs.Fmt.{decimal}
 use Rattle.fixed_point.specs.Canonical.{fix_text}
@@ -121,3 +121,7 @@ parts_text (p ▸ ps) = part_text p ++ parts_text ps
 -- its parts without the first space
 unfoldable pub text_of : CommandTree → List ℕ
 text_of c = drop 1 (parts_text (parts c))
+
+-- the bytes are the canonical line of the command
+abbrev pub IsLineOf : List ℕ → CommandTree → Type 0
+IsLineOf line command = line ≡ text_of command

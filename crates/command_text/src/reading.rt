@@ -1,12 +1,12 @@
 //! Reading lines.
-ghost use Rattle.std.specs.Prelude.{◌≡◌, ◌≤◌, None, length, OnOk, IfOk, IfErr};
+ghost use Rattle.std.specs.Prelude.{◌≡◌, None, length, OnOk, IfOk, IfErr};
 ghost use Rattle.std.specs.List.{list_any};
 ghost use Rattle.command_text.specs.Tree.{command_view};
 ghost use Rattle.command_text.specs.Line.{is_comment, is_ascii, has_other_byte, IsRead, Explains};
 ghost use Rattle.command_text.specs.GrammarLaws.{IsSpelled, IsFaultOf};
 ghost use Rattle.command_text.specs.inner.LineParts.{IsBegun, TellsBadPlace};
 ghost use Rattle.ftl_lexer.specs.Tokens.{bad_place};
-ghost use Rattle.ftl_lexer.specs.declared.buffer.TheConstants.{LEXER_LIMIT};
+ghost use Rattle.ftl_lexer.specs.Forms.{FitsLexer};
 
 use crate::Command;
 use crate::fault::CommandFault;
@@ -54,7 +54,7 @@ fn is_comment(line: &[u8]) -> bool
 
 /// The tokens of a line that isn't a comment, put in place of those of the line before.
 fn cut(tokens: &mut Tokens, line: &[u8]) -> Result<(), CommandFault>
-    requires { length line.now ≤ LEXER_LIMIT }
+    requires { FitsLexer (length line.now) }
     ensures ok { OnOk result ((tokens.new ≡ line.now) × (bad_place line.now ≡ None)) }
     ensures cause { IfErr result (TellsBadPlace line.now) }
 {
@@ -69,7 +69,7 @@ fn cut(tokens: &mut Tokens, line: &[u8]) -> Result<(), CommandFault>
 /// one, its tokens are put in place of those of the line before.
 #[tactic(auto, using(crate::proofs::reader::LineLemmas::begin_steps))]
 fn begin(tokens: &mut Tokens, line: &[u8], limit: usize) -> Result<bool, CommandFault>
-    requires { limit ≤ LEXER_LIMIT }
+    requires { FitsLexer limit }
     ensures ok { IfOk result (IsBegun limit line.now tokens.new) }
     ensures cause { IfErr result (Explains limit line.now) }
 {
@@ -110,7 +110,7 @@ impl LineReader {
     #[inline(always)]
     #[tactic(auto, using(crate::proofs::grammar::DerivedLines::answers_spelled, crate::proofs::grammar::DerivedLines::fault_told))]
     pub fn read(&mut self, line: &[u8], limit: usize) -> Result<Command, CommandFault>
-        requires { limit ≤ LEXER_LIMIT }
+        requires { FitsLexer limit }
         ensures spelled { IfOk result (λ c. IsSpelled limit line.now (command_view c)) }
         ensures refused { IfErr result (IsFaultOf limit line.now) }
         ensures ok { IfOk result (λ c. IsRead limit line.now (command_view c)) }
@@ -126,7 +126,7 @@ impl LineReader {
 
 /// Reads one line, as a `LineReader` does.
 pub fn read(alloc: Global, line: &[u8], limit: usize) -> Result<Command, CommandFault>
-    requires { limit ≤ LEXER_LIMIT }
+    requires { FitsLexer limit }
     ensures spelled { IfOk result (λ c. IsSpelled limit line.now (command_view c)) }
     ensures refused { IfErr result (IsFaultOf limit line.now) }
     ensures ok { IfOk result (λ c. IsRead limit line.now (command_view c)) }

@@ -8,6 +8,7 @@ use Rattle.motion.specs.declared.asked.Asked.{Asked}
 use Rattle.motion.specs.declared.asked.Asked.TheVariants as which
 use Rattle.motion.specs.Timeline.{AreBegunUpTo, Epoch, epoch_at}
 use Rattle.motion.specs.Pieces.{AreSteadyFor, is_cut_for}
+use Rattle.courses.specs.declared.parts.TheConstants.{MOST_TIMELINES}
 
 -- the epochs of each timeline
 abbrev pub epochs_of_each : List (Bor (List Epoch)) → List (List Epoch)
@@ -71,3 +72,7 @@ pieces_for timelines at last = sum_by (λ p. piece_count_for p.0 p.1 at last) ti
 
 abbrev pub pieces_of_all : List (List Epoch) → ℕ → ℕ → ℕ
 pieces_of_all timelines at last = sum_by (λ epochs. piece_count epochs at last) timelines
+
+-- no more timelines than have a common part
+abbrev pub AreFewTimelines : List (Bor (List Epoch)) → Type 0
+AreFewTimelines timelines = length timelines ≤ MOST_TIMELINES

@@ -2,19 +2,20 @@
 ghost use Rattle.std.specs.Prelude.{◌≡◌, ◌<◌, ◌+◌, ◌*◌, ◌-◌, ◌≤◌, ℕ, pos, ◌+ℤ◌, ◌*ℤ◌, unsigned_abs, Some, None, is_some, IfSome, IfNone};
 ghost use Rattle.std.specs.Option.{option_copied};
 ghost use Rattle.fixed_point.specs.declared.number.TheConstants.{READ_LIMIT, SLOPE_LIMIT};
+ghost use Rattle.fixed_point.specs.Sizes.{IsSlope};
 ghost use Rattle.geometry.specs.Plane.{point};
 ghost use Rattle.motion.specs.Dynamic.{value_at};
 ghost use Rattle.motion.specs.Pieces.{AreSteadyCells, IsLinear};
 ghost use Rattle.linear_crossing.specs.Moving.{IsInReach, position_after};
 ghost use Rattle.linear_crossing.specs.declared.quad.TheConstants.{COORDINATE_LIMIT};
-ghost use Rattle.tick_set.specs.declared.spans.TheConstants.{LAST_TICK};
+ghost use Rattle.tick_set.specs.Ticks.{IsTick};
 ghost use Rattle.courses.specs.Parts.{piece_count};
 ghost use Rattle.courses.specs.Places.{dynamic_at, place_at, place_of, tells_line_from, IsPlaceSteady};
 
 use fixed_point::{Fix, Point, Slope};
 use linear_crossing::Line;
 use motion::{Cell, Epoch, Timeline, Vector};
-use tick_set::{LAST_TICK, Span};
+use tick_set::Span;
 
 /// The line along which a point object moves in the ticks of the span, in which the epoch is in force and
 /// its dynamic attributes are steady. It begins at the place at `span.lo`, so it stands for no other first
@@ -72,7 +73,7 @@ pub fn straight_line(timeline: &Timeline, span: Span) -> Option<Line>
 #[inline(always)]
 fn value_after(start: Fix, slope: Slope, from: u32, to: u32) -> Fix
     requires order { from ≤ to }
-    requires tick { to ≤ LAST_TICK }
+    requires tick { IsTick to }
     requires near { unsigned_abs start ≤ READ_LIMIT + SLOPE_LIMIT * from }
     ensures value { result ≡ start +ℤ slope *ℤ pos (to - from) }
     ensures reach { unsigned_abs result ≤ COORDINATE_LIMIT }
@@ -83,9 +84,9 @@ fn value_after(start: Fix, slope: Slope, from: u32, to: u32) -> Fix
 // How far a slope rises in these ticks, in thousandths.
 #[inline(always)]
 fn rise(slope: Slope, ticks: u32) -> i64
-    requires { ticks ≤ LAST_TICK }
+    requires { IsTick ticks }
     ensures value { result ≡ slope *ℤ pos ticks }
-    ensures in_range { unsigned_abs slope ≤ SLOPE_LIMIT }
+    ensures in_range { IsSlope slope }
 {
     slope.raw() * i64::from(ticks)
 }

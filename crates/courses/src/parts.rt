@@ -1,13 +1,13 @@
 //! The common parts of several timelines.
 ghost use Rattle.std.specs.Prelude.{◌≡◌, ◌+◌, ◌<◌, ◌≤◌, ℕ, None, [], All, IsSome, IfSome, length, slice_index_or};
 ghost use Rattle.std.specs.Option.{option_copied};
-ghost use Rattle.tick_set.specs.declared.spans.TheConstants.{LAST_TICK};
+ghost use Rattle.tick_set.specs.Ticks.{IsTick};
 ghost use Rattle.motion.specs.Pieces.{AreSteadyCells, AreSteadyFor};
 ghost use Rattle.motion.specs.Timeline.{epoch_at, AreBegunUpTo, IsRising};
-ghost use Rattle.courses.specs.Parts.{asked_at, asked_each, epochs_of_each, pieces_for, pieces_of_all, AreBegun, IsCommon, IsCommonFor, IsTimelinePart};
+ghost use Rattle.courses.specs.Parts.{asked_at, asked_each, epochs_of_each, pieces_for, pieces_of_all, AreBegun, IsCommon, IsCommonFor, IsTimelinePart, AreFewTimelines};
 
 use motion::{Asked, Epoch, Timeline};
-use tick_set::{LAST_TICK, Span};
+use tick_set::Span;
 
 /// The most timelines that are walked together.
 pub const MOST_TIMELINES: usize = 4;
@@ -40,9 +40,9 @@ impl<'a> Common<'a> {
 /// Where each timeline has an epoch in force, fewer of their pieces are left past the part than from `at` on.
 /// So there are at most as many such parts as pieces.
 pub fn common_from<'a>(timelines: &[&'a Timeline], at: u32, last: u32) -> Common<'a>
-    requires few { length timelines.now ≤ MOST_TIMELINES }
+    requires few { AreFewTimelines timelines.now }
     requires order { at ≤ last }
-    requires tick { last ≤ LAST_TICK }
+    requires tick { IsTick last }
     ensures part { IsCommon (epochs_of_each timelines.now) at last result.span }
     ensures epochs { (k t : ℕ) → result.span.lo ≤ t → t ≤ result.span.hi
         → epoch_at (slice_index_or (epochs_of_each timelines.now) k []) t
@@ -61,7 +61,7 @@ pub fn common_from<'a>(timelines: &[&'a Timeline], at: u32, last: u32) -> Common
 
 /// How many epochs of each of these timelines begin by tick `at`, in their order.
 pub fn begun_by(timelines: &[&Timeline], at: u32) -> [usize; MOST_TIMELINES]
-    requires { length timelines.now ≤ MOST_TIMELINES }
+    requires { AreFewTimelines timelines.now }
     ensures { AreBegun (epochs_of_each timelines.now) at result }
 {
     let mut begun = [0; MOST_TIMELINES];
@@ -86,10 +86,10 @@ pub fn common_for<'a>(
     at: u32,
     last: u32,
 ) -> Common<'a>
-    requires few { length timelines.now ≤ MOST_TIMELINES }
+    requires few { AreFewTimelines timelines.now }
     requires begun { AreBegun (epochs_of_each timelines.now) at begun.old }
     requires order { at ≤ last }
-    requires tick { last ≤ LAST_TICK }
+    requires tick { IsTick last }
     ensures part { IsCommonFor (asked_each asked.now (epochs_of_each timelines.now)) at last result.span }
     ensures begun { AreBegun (epochs_of_each timelines.now) (result.span.hi + 1) begun.new }
     ensures epochs { (k t : ℕ) → result.span.lo ≤ t → t ≤ result.span.hi
@@ -126,9 +126,9 @@ fn asked_at<'a>(asked: &[Asked<'a>], k: usize) -> Asked<'a>
 
 // As many epochs of each timeline begin by tick `end`; `begun` is moved on to the tick past it.
 fn move_on(timelines: &[&Timeline], begun: &mut [usize; MOST_TIMELINES], end: u32)
-    requires few { length timelines.now ≤ MOST_TIMELINES }
+    requires few { AreFewTimelines timelines.now }
     requires begun { AreBegun (epochs_of_each timelines.now) end begun.old }
-    requires tick { end ≤ LAST_TICK }
+    requires tick { IsTick end }
     ensures { AreBegun (epochs_of_each timelines.now) (end + 1) begun.new }
 {
     for k in 0..timelines.len() {
@@ -148,7 +148,7 @@ struct Part<'a> {
 fn part_for<'a>(timeline: &'a Timeline, asked: Asked, count: usize, at: u32, last: u32) -> Part<'a>
     requires begun { AreBegunUpTo timeline.now at count }
     requires order { at ≤ last }
-    requires tick { last ≤ LAST_TICK }
+    requires tick { IsTick last }
     ensures part { IsTimelinePart asked.entry timeline.now at last result.end }
     ensures epoch { option_copied result.epoch ≡ epoch_at timeline.now at }
     ensures begun { AreBegunUpTo timeline.now result.end count }

@@ -1,6 +1,7 @@
 //! Queries: why they are refused, and their answers.
 ghost use Rattle.std.specs.Prelude.{◌≡◌, ◌+◌, ◌≤◌, ◌++◌, None, min, map, IfErr, IfOk, IsOk, OnOk};
 ghost use Rattle.tick_set.specs.declared.spans.TheConstants.{LAST_TICK, SPAN_LIMIT};
+ghost use Rattle.tick_set.specs.Ticks.{IsTick};
 ghost use Rattle.formula.specs.Resolved.{IsResolved};
 ghost use Rattle.formula.specs.Tree.{resolved_view};
 ghost use Rattle.ftl_parser.specs.Tree.{query_view, view};
@@ -48,8 +49,8 @@ fn span_limit(formula: &Formula) -> u32
 
 /// Whether a span is too long, or reaches past the last tick.
 pub fn is_past_span(now: u32, span: u32, formula: &Formula) -> bool
-    requires now { now ≤ LAST_TICK }
-    requires span { span ≤ LAST_TICK }
+    requires now { IsTick now }
+    requires span { IsTick span }
     ensures { result ≡ is_past_span now span (view formula.now) }
 {
     span > span_limit(formula) || now + span > LAST_TICK
@@ -83,8 +84,8 @@ pub fn most_bindings(schema: &Schema, parts: &[FromPart]) -> u64
 /// Why a query whose names, kinds and bounds are right is refused.
 #[tactic(auto, using(crate::proofs::AskLemmas::many_saturated))]
 fn size_refusal(database: &Database, span: u32, query: &Query) -> Option<Refusal>
-    requires now { database.now.clock ≤ LAST_TICK }
-    requires span { span ≤ LAST_TICK }
+    requires now { IsTick database.now.clock }
+    requires span { IsTick span }
     ensures { result ≡ size_refusal (world_of_database database.now) database.now.clock span (query_view query.now) }
 {
     let schema = database.store.schema();

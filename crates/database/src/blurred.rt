@@ -1,6 +1,7 @@
 //! What surely holds of a query and what possibly does where positions may be off: why it isn't told, and its rows.
 ghost use Rattle.std.specs.Prelude.{◌≡◌, ◌+◌, ◌≤◌, ◌++◌, unsigned_abs, None, IfErr, IfOk, IsOk, OnOk};
 ghost use Rattle.tick_set.specs.declared.spans.TheConstants.{LAST_TICK, SPAN_LIMIT};
+ghost use Rattle.tick_set.specs.Ticks.{IsTick};
 ghost use Rattle.exact.specs.First.{or_else};
 ghost use Rattle.formula.specs.Resolved.{IsResolved};
 ghost use Rattle.formula.specs.Tree.{resolved_view};
@@ -64,8 +65,8 @@ fn is_barred(formula: &Formula) -> bool
 
 /// Whether a span is too long, or reaches past the last tick.
 fn is_past(now: u32, span: u32) -> bool
-    requires now { now ≤ LAST_TICK }
-    requires span { span ≤ LAST_TICK }
+    requires now { IsTick now }
+    requires span { IsTick span }
     ensures { result ≡ is_blurred_past now span }
 {
     span > BLURRED_SPAN_LIMIT || now + span > LAST_TICK
@@ -74,8 +75,8 @@ fn is_past(now: u32, span: u32) -> bool
 /// Why a query whose names, kinds and bounds are right is refused.
 #[tactic(auto, using(crate::proofs::BlurredLemmas::few_saturated))]
 fn size_refusal(database: &Database, span: u32, query: &Query) -> Option<Refusal>
-    requires now { database.now.clock ≤ LAST_TICK }
-    requires span { span ≤ LAST_TICK }
+    requires now { IsTick database.now.clock }
+    requires span { IsTick span }
     ensures { result ≡ blurred_size_refusal (world_of_database database.now) database.now.clock span (query_view query.now) }
 {
     let schema = database.store.schema();
@@ -108,8 +109,8 @@ fn refusal_of(
     query: &Query,
     by_type: Option<Refusal>,
 ) -> Option<Refusal>
-    requires now { database.now.clock ≤ LAST_TICK }
-    requires span { span ≤ LAST_TICK }
+    requires now { IsTick database.now.clock }
+    requires span { IsTick span }
     ensures { result ≡ or_else (refusal_if_barred (has_not_or_circle (query_view query.now).formula) by_type)
         (blurred_size_refusal (world_of_database database.now) database.now.clock span (query_view query.now)) }
 {

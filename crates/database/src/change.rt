@@ -2,6 +2,7 @@
 ghost use Rattle.std.specs.Prelude.{◌≡◌, ◌<◌, ◌≤◌, true, false, if◌then◌else◌, is_some, nat_le, length, MatchResult};
 ghost use Rattle.std.specs.Option.{option_map_or};
 ghost use Rattle.tick_set.specs.declared.spans.TheConstants.{LAST_TICK};
+ghost use Rattle.tick_set.specs.Ticks.{IsTick};
 ghost use Rattle.geometry.specs.Polygon.{is_convex};
 ghost use Rattle.geometry.specs.Region.{region_number};
 ghost use Rattle.geometry.specs.declared.limits.TheConstants.{LEAST_VERTICES, VERTEX_LIMIT};
@@ -120,7 +121,7 @@ fn region(
 
 /// Moves the clock. A refusal changes nothing.
 fn tick(database: &mut Database, ticks: u32) -> Result<Change, CommandFault>
-    requires ready { ticks ≤ LAST_TICK }
+    requires ready { IsTick ticks }
     requires timely { IsTimely database.old }
     ensures { Attempts (Tree.Tick ticks) database.old database.new result }
 {

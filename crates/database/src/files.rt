@@ -1,5 +1,5 @@
 //! The objects of a class as a text of csv, both ways.
-ghost use Rattle.std.specs.Prelude.{◌≡◌, ◌+◌, ◌≤◌, None, length, option_map, IfErr, IfOk, IsOk};
+ghost use Rattle.std.specs.Prelude.{◌≡◌, None, length, option_map, IfErr, IfOk, IsOk};
 ghost use Rattle.history.specs.Catalog.{attributes_of_class, class_of};
 ghost use Rattle.object_rows.specs.Rows.{rows_in};
 ghost use Rattle.line_meaning.specs.Fault.{class_refusal, is_present};
@@ -7,6 +7,7 @@ ghost use Rattle.line_meaning.specs.Files.{class_text};
 ghost use Rattle.line_meaning.specs.Looks.{objects_of_class};
 ghost use Rattle.database.specs.Keeping.{clock_of, IsTimely, world_of_database};
 ghost use Rattle.database.specs.Telling.{IsRefused, IsStoppedBy};
+ghost use Rattle.steps.specs.Counting.{StepsAtMost};
 
 use crate::database::Database;
 use command_text::{CommandFault, Refusal};
@@ -41,8 +42,8 @@ impl Database {
         ensures accepted { IsOk result → class_refusal (world_of_database self.now).history.catalog class.now ≡ None }
         ensures text { IfOk result (λ text. text.items ≡ class_text (world_of_database self.now) (clock_of self.now) class.now) }
         ensures cause { IfErr result (λ fault. IsStoppedBy (class_refusal (world_of_database self.now).history.catalog class.now) fault) }
-        ensures least { reads.old ≤ reads.new }
-        ensures most { reads.new ≤ reads.old + length (objects_of_class (world_of_database self.now).history.catalog class.now) }
+        ensures reads { StepsAtMost reads.old reads.new
+            (length (objects_of_class (world_of_database self.now).history.catalog class.now)) }
         ensures unread { IfErr result (λ fault. IsRefused fault → reads.new ≡ reads.old) }
     {
         let Some(number) = self.store.schema().class_of(class) else {

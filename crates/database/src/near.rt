@@ -1,6 +1,7 @@
 //! The objects nearest to another one: why they aren't told, and their rows.
-ghost use Rattle.std.specs.Prelude.{◌≡◌, ◌+◌, ◌≤◌, option_and_then, slice_get, true, Some, IfErr, MatchOption};
+ghost use Rattle.std.specs.Prelude.{◌≡◌, ◌+◌, option_and_then, slice_get, true, Some, IfErr, MatchOption};
 ghost use Rattle.tick_set.specs.declared.spans.TheConstants.{LAST_TICK};
+ghost use Rattle.tick_set.specs.Ticks.{IsTick};
 ghost use Rattle.object_store.specs.Contents.{catalog_of};
 ghost use Rattle.history.specs.Catalog.{number_of_class};
 ghost use Rattle.line_meaning.specs.Looks.{looks_near};
@@ -87,8 +88,8 @@ fn pairs_in(schema: &Schema, class: ClassId) -> u64
 
 /// Whether a span is too long, or reaches past the last tick.
 fn is_past(now: u32, span: u32) -> bool
-    requires now { now ≤ LAST_TICK }
-    requires span { span ≤ LAST_TICK }
+    requires now { IsTick now }
+    requires span { IsTick span }
     ensures { result ≡ is_near_past now span }
 {
     span > NEAREST_SPAN_LIMIT || now + span > LAST_TICK
@@ -96,8 +97,8 @@ fn is_past(now: u32, span: u32) -> bool
 
 /// Why the objects nearest to an object that is there, of a class that is there, aren't told.
 fn refusal_of(database: &Database, found: Found, span: u32) -> Option<Refusal>
-    requires now { database.now.clock ≤ LAST_TICK }
-    requires span { span ≤ LAST_TICK }
+    requires now { IsTick database.now.clock }
+    requires span { IsTick span }
     ensures { result ≡ refusal_of_found
         (option_and_then (λ o. slice_get database.now.store.classes o.class) (slice_get database.now.store.objects found.to))
         (slice_get database.now.store.classes found.class) database.now.clock span }
@@ -123,8 +124,8 @@ pub(crate) fn tell_nearest<L: Ledger, M: Ledger>(
     probes: &mut Steps<M>,
     out: &mut Vec<u8>,
 ) -> Result<(), CommandFault>
-    requires span { sought.now.span ≤ LAST_TICK }
-    requires in_range { database.now.clock ≤ LAST_TICK }
+    requires span { IsTick sought.now.span }
+    requires in_range { IsTick database.now.clock }
     ensures answered { RefusesOrWrites
         (near_refusal (catalog_of database.now.store) database.now.clock sought.now.span sought.now.object.now sought.now.class.now)
         (rows_text (catalog_of database.now.store) database.now.clock

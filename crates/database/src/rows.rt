@@ -1,7 +1,7 @@
 //! The rows of an answer.
 ghost use Rattle.std.specs.Prelude.{◌≡◌, ◌<◌, ◌++◌, true, nat_lt, length, map, OnOk};
 ghost use Rattle.std.specs.List.{list_all};
-ghost use Rattle.object_store.specs.Contents.{catalog_of, object_name};
+ghost use Rattle.object_store.specs.Contents.{IsObjectId, catalog_of, object_name};
 ghost use Rattle.answers.specs.Told.{told_rows};
 ghost use Rattle.nearest.specs.Rows.{told_near};
 ghost use Rattle.history.specs.Catalog.{name_of};
@@ -21,7 +21,7 @@ use std::alloc::{AllocError, Global};
 
 /// The name of an object.
 fn name_of(store: &Store, id: ObjectId) -> &Word
-    requires { id < length store.now.objects }
+    requires { IsObjectId store.now id }
     ensures { result.now ≡ object_name store.now.objects id }
 {
     store.name_of(id).unwrap()

@@ -4,5 +4,6 @@ pub mod Ends
 pub mod Far
 pub mod LeastCircle
 pub mod NearTicks
+pub mod Sizes
 pub mod Trials
 pub mod Triples

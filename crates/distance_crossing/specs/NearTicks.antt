@@ -1,11 +1,11 @@
 -- The ticks of a window at which moving points are near each other.
-use Rattle.std.specs.Prelude.{ℕ, ◌-◌, ℤ, Bool, true, ◌&&◌, int_le, List, [], ◌∷◌, map}
+use Rattle.std.specs.Prelude.{ℕ, ◌-◌, ℤ, Bool, true, ◌&&◌, int_le, List, [], ◌∷◌, map, ◌≤◌, length, All}
 use Rattle.std.specs.List.{list_all}
 use Rattle.case_table.specs.declared.compare.Op.{Op}
 use Rattle.fixed_point.specs.declared.number.Point.{Point}
 use Rattle.geometry.specs.Circle.{fits, squared_width}
 use Rattle.geometry.specs.Distance.{distance_compares}
-use Rattle.linear_crossing.specs.Moving.{position_after, distance_after}
+use Rattle.linear_crossing.specs.Moving.{position_after, distance_after, IsInReach}
 use Rattle.linear_crossing.specs.Relative.{Relative, squared_distance_at}
 use Rattle.linear_crossing.specs.declared.quad.Line.{Line}
 use Rattle.tick_set.specs.Ticks.{within}
@@ -43,3 +43,8 @@ all_near r p others k = list_all (λ q. int_le (distance_after p q k) (squared_w
 abbrev pub pairs_near : ℤ → List Line → ℕ → Bool
 pairs_near r [] k = true
 pairs_near r (p ∷ later) k = all_near r p later k && pairs_near r later k
+
+-- as many motions as a circle may have, which begin where stored motions can be
+pub record AreLinesInReach (lines : List Line) : Type 0 where
+  pub count : length lines ≤ 4
+  pub in_reach : All IsInReach lines

@@ -1,7 +1,8 @@
 //! Whether up to four points fit a circle.
-ghost use Rattle.std.specs.Prelude.{◌≡◌, ◌*◌, ◌^◌, ◌≤◌, pos, ◌+ℤ◌, ◌-ℤ◌, ◌*ℤ◌, ◌≤ℤ◌, int_le, unsigned_abs, length};
+ghost use Rattle.std.specs.Prelude.{◌≡◌, ◌*◌, ◌^◌, ◌≤◌, ◌+ℤ◌, ◌-ℤ◌, ◌*ℤ◌, int_le, unsigned_abs, length};
 ghost use Rattle.geometry.specs.Plane.{square};
-ghost use Rattle.geometry.specs.Circle.{fits, sides_fit, squared_width, three_fit, two_fit};
+ghost use Rattle.geometry.specs.Circle.{IsRadius, fits, sides_fit, squared_width, three_fit, two_fit};
+ghost use Rattle.distance_crossing.specs.Sizes.{AreSquares, AreSquaresUpTo, IsAreaWithin};
 
 use exact::{minus, plus, times};
 use fixed_point::{FIX_LIMIT, Fix, Point};
@@ -14,8 +15,7 @@ use geometry::{RADIUS_LIMIT, cross, squared_distance};
 ///
 /// It takes no memory.
 pub fn fits(r: Fix, points: &[Point]) -> bool
-    requires least { pos 0 ≤ℤ r }
-    requires most { r ≤ℤ pos RADIUS_LIMIT }
+    requires radius { IsRadius r }
     requires count { length points.now ≤ 4 }
     ensures { result ≡ fits r points.now }
 {
@@ -35,8 +35,7 @@ pub fn fits(r: Fix, points: &[Point]) -> bool
 // The square of the diameter of a circle of radius `r`.
 #[inline]
 pub(crate) fn squared_width(r: Fix) -> i128
-    requires least { pos 0 ≤ℤ r }
-    requires most { r ≤ℤ pos RADIUS_LIMIT }
+    requires { IsRadius r }
     ensures value { result ≡ squared_width r }
     ensures size { unsigned_abs result ≤ 4 * RADIUS_LIMIT ^ 2 }
 {
@@ -45,16 +44,14 @@ pub(crate) fn squared_width(r: Fix) -> i128
 }
 
 fn two_fit(r: Fix, p: &Point, q: &Point) -> bool
-    requires least { pos 0 ≤ℤ r }
-    requires most { r ≤ℤ pos RADIUS_LIMIT }
+    requires { IsRadius r }
     ensures { result ≡ two_fit r p.now q.now }
 {
     squared_distance(*p, *q) <= squared_width(r)
 }
 
 fn three_fit(r: Fix, p: &Point, q: &Point, s: &Point) -> bool
-    requires least { pos 0 ≤ℤ r }
-    requires most { r ≤ℤ pos RADIUS_LIMIT }
+    requires { IsRadius r }
     ensures { result ≡ three_fit r p.now q.now s.now }
 {
     let a = squared_distance(*p, *q);
@@ -68,17 +65,12 @@ fn three_fit(r: Fix, p: &Point, q: &Point, s: &Point) -> bool
 // diameter is refused first, also where all angles are sharp: no side is longer than the diameter of the
 // circle through the corners. So no product of what is left is too large.
 fn sides_fit(r: Fix, a: i128, b: i128, c: i128, area: i128) -> bool
-    requires least { pos 0 ≤ℤ r }
-    requires most { r ≤ℤ pos RADIUS_LIMIT }
-    requires a_least { pos 0 ≤ℤ a }
-    requires b_least { pos 0 ≤ℤ b }
-    requires c_least { pos 0 ≤ℤ c }
-    requires a_most { unsigned_abs a ≤ 8 * FIX_LIMIT ^ 2 }
-    requires b_most { unsigned_abs b ≤ 8 * FIX_LIMIT ^ 2 }
-    requires c_most { unsigned_abs c ≤ 8 * FIX_LIMIT ^ 2 }
-    requires a_and_b { unsigned_abs area * unsigned_abs area ≤ unsigned_abs a * unsigned_abs b }
-    requires b_and_c { unsigned_abs area * unsigned_abs area ≤ unsigned_abs b * unsigned_abs c }
-    requires c_and_a { unsigned_abs area * unsigned_abs area ≤ unsigned_abs c * unsigned_abs a }
+    requires radius { IsRadius r }
+    requires squares { AreSquares a b c }
+    requires sizes { AreSquaresUpTo (8 * FIX_LIMIT ^ 2) a b c }
+    requires a_and_b { IsAreaWithin area a b }
+    requires b_and_c { IsAreaWithin area b c }
+    requires c_and_a { IsAreaWithin area c a }
     ensures { result ≡ sides_fit r a b c area }
 {
     let width = squared_width(r);
@@ -94,9 +86,7 @@ fn sides_fit(r: Fix, a: i128, b: i128, c: i128, area: i128) -> bool
 
 // Whether the longest of the squared sides is at least the sum of the two others.
 pub(crate) fn is_wide(a: i128, b: i128, c: i128, longest: i128) -> bool
-    requires a_most { unsigned_abs a ≤ 8 * FIX_LIMIT ^ 2 }
-    requires b_most { unsigned_abs b ≤ 8 * FIX_LIMIT ^ 2 }
-    requires c_most { unsigned_abs c ≤ 8 * FIX_LIMIT ^ 2 }
+    requires sizes { AreSquaresUpTo (8 * FIX_LIMIT ^ 2) a b c }
     requires longest_most { unsigned_abs longest ≤ 8 * FIX_LIMIT ^ 2 }
     ensures { result ≡ int_le (a +ℤ b +ℤ c -ℤ longest) longest }
 {
@@ -107,10 +97,8 @@ pub(crate) fn is_wide(a: i128, b: i128, c: i128, longest: i128) -> bool
 // is longer than the diameter, and the cross product of two of them.
 fn corners_fit(width: i128, a: i128, b: i128, c: i128, area: i128) -> bool
     requires width_most { unsigned_abs width ≤ 4 * RADIUS_LIMIT ^ 2 }
-    requires a_most { unsigned_abs a ≤ 4 * RADIUS_LIMIT ^ 2 }
-    requires b_most { unsigned_abs b ≤ 4 * RADIUS_LIMIT ^ 2 }
-    requires c_most { unsigned_abs c ≤ 4 * RADIUS_LIMIT ^ 2 }
-    requires a_and_b { unsigned_abs area * unsigned_abs area ≤ unsigned_abs a * unsigned_abs b }
+    requires sizes { AreSquaresUpTo (4 * RADIUS_LIMIT ^ 2) a b c }
+    requires a_and_b { IsAreaWithin area a b }
     ensures { result ≡ int_le (a *ℤ b *ℤ c) (width *ℤ square area) }
 {
     let sides = times(times(a, b), c);

@@ -5,20 +5,24 @@ ghost use Rattle.linear_crossing.specs.Moving.{IsInReach};
 ghost use Rattle.linear_crossing.specs.Relative.{squared_distance_at};
 ghost use Rattle.linear_crossing.specs.Zones.{IsPairOf, spans_of};
 ghost use Rattle.tick_set.specs.Runs.{IsNormal, IsRuns, spans_have};
-ghost use Rattle.tick_set.specs.Ticks.{within};
+ghost use Rattle.tick_set.specs.Ticks.{IsTick, within};
+ghost use Rattle.tick_set.specs.Windows.{IsQueryWindow};
 ghost use Rattle.distance_crossing.specs.Far.{pass_by};
 ghost use Rattle.distance_crossing.specs.NearTicks.{distance_holds_at, is_near_at, motions_compare};
 ghost use Rattle.distance_crossing.specs.Triples.{IsPacked, IsTripleOf, triple_spans};
+ghost use Rattle.distance_crossing.specs.Sizes.{IfShort};
+ghost use Rattle.fixed_point.specs.Sizes.{IsReadable};
+ghost use Rattle.steps.specs.Counting.{StepsAtMost};
 
 use crate::far::pass_by;
-use crate::near::{SHORT_WINDOW, within};
+use crate::near::within;
 use case_table::Op;
 use exact::times;
 use fixed_point::{Fix, READ_LIMIT};
 use linear_crossing::{Line, Pair, Quad};
 use std::sync::ledger::Ledger;
 use steps::Steps;
-use tick_set::{LAST_TICK, SPAN_LIMIT, Span, Window};
+use tick_set::{LAST_TICK, Span, Window};
 
 /// Up to three runs of ticks. The empty places come last.
 #[derive(Clone, Copy, Debug, PartialEq, Eq)]
@@ -44,12 +48,11 @@ pub fn compare_motions<M: Ledger>(
 ) -> Triple
     requires p_in_reach { IsInReach p.now }
     requires q_in_reach { IsInReach q.now }
-    requires length { w.hi - w.lo ≤ SPAN_LIMIT }
-    requires c_size { unsigned_abs c ≤ READ_LIMIT }
+    requires length { IsQueryWindow w }
+    requires c_size { IsReadable c }
     ensures runs { IsTripleOf (motions_compare p.now q.now op c w) result }
-    ensures cost { probes.new ≤ probes.old + 63 }
-    ensures short_cost { w.hi - w.lo ≤ SHORT_WINDOW → probes.new ≤ probes.old + 47 }
-    ensures least { probes.old ≤ probes.new }
+    ensures cost { StepsAtMost probes.old probes.new 63 }
+    ensures short_cost { IfShort w (probes.new ≤ probes.old + 47) }
     ensures far { pass_by c p.now q.now (w.hi - w.lo) ≡ true → probes.new ≡ probes.old }
 {
     if pass_by(p, q, c, w.hi - w.lo) {
@@ -64,12 +67,11 @@ pub fn compare_motions<M: Ledger>(
 ///
 /// It takes no memory.
 pub fn compare<M: Ledger>(q: &Quad, op: Op, c: Fix, w: Window, probes: &mut Steps<M>) -> Triple
-    requires length { w.hi - w.lo ≤ SPAN_LIMIT }
-    requires c_size { unsigned_abs c ≤ READ_LIMIT }
+    requires length { IsQueryWindow w }
+    requires c_size { IsReadable c }
     ensures runs { IsTripleOf (distance_holds_at q.now op c w) result }
-    ensures cost { probes.new ≤ probes.old + 63 }
-    ensures short_cost { w.hi - w.lo ≤ SHORT_WINDOW → probes.new ≤ probes.old + 47 }
-    ensures least { probes.old ≤ probes.new }
+    ensures cost { StepsAtMost probes.old probes.new 63 }
+    ensures short_cost { IfShort w (probes.new ≤ probes.old + 47) }
 {
     if c.raw() < 0 {
         return everywhere(op.holds(1), w);
@@ -96,23 +98,21 @@ fn everywhere(all: bool, w: Window) -> Triple
 
 // The ticks of the window at which the squared distance is below `square`.
 fn nearer<M: Ledger>(q: &Quad, square: i128, w: Window, probes: &mut Steps<M>) -> Option<Span>
-    requires length { w.hi - w.lo ≤ SPAN_LIMIT }
+    requires length { IsQueryWindow w }
     requires size { unsigned_abs square ≤ READ_LIMIT ^ 2 }
     ensures runs { IsRuns (is_near_at q.now (square -ℤ pos 1) w) (option_to_list result) }
-    ensures cost { probes.new ≤ probes.old + 60 }
-    ensures short_cost { w.hi - w.lo ≤ SHORT_WINDOW → probes.new ≤ probes.old + 44 }
-    ensures least { probes.old ≤ probes.new }
+    ensures cost { StepsAtMost probes.old probes.new 60 }
+    ensures short_cost { IfShort w (probes.new ≤ probes.old + 44) }
 {
     within(q, square - 1, w, probes)
 }
 
 // The ticks of the window at which the squared distance is `square`.
 fn at_distance<M: Ledger>(q: &Quad, square: i128, w: Window, probes: &mut Steps<M>) -> Pair
-    requires length { w.hi - w.lo ≤ SPAN_LIMIT }
+    requires length { IsQueryWindow w }
     ensures runs { IsPairOf (λ t. within w.lo w.hi t && int_eq (squared_distance_at q.now (t - w.lo)) square) result }
-    ensures cost { probes.new ≤ probes.old + 63 }
-    ensures short_cost { w.hi - w.lo ≤ SHORT_WINDOW → probes.new ≤ probes.old + 47 }
-    ensures least { probes.old ≤ probes.new }
+    ensures cost { StepsAtMost probes.old probes.new 63 }
+    ensures short_cost { IfShort w (probes.new ≤ probes.old + 47) }
 {
     let at_most = within(q, square, w, probes);
     let below = below(q, square, at_most, w, probes);
@@ -130,8 +130,7 @@ fn below<M: Ledger>(
 ) -> Option<Span>
     requires at_most { IsRuns (is_near_at q.now square w) (option_to_list at_most) }
     ensures runs { IsRuns (is_near_at q.now (square -ℤ pos 1) w) (option_to_list result) }
-    ensures cost { probes.new ≤ probes.old + 3 }
-    ensures least { probes.old ≤ probes.new }
+    ensures cost { StepsAtMost probes.old probes.new 3 }
 {
     let Some(span) = at_most else {
         return None;
@@ -151,14 +150,13 @@ fn stretch_below<M: Ledger>(
     probes: &mut Steps<M>,
 ) -> (u32, u32)
     requires ordered { first ≤ end }
-    requires in_range { end ≤ LAST_TICK }
+    requires in_range { IsTick end }
     requires at_most { (k : ℕ) → first ≤ k → k ≤ end → squared_distance_at q.now k ≤ℤ square }
     ensures from { first ≤ result.0 }
     ensures from_upto { result.0 ≤ end + 1 }
     ensures upto { result.1 ≤ end + 1 }
     ensures below { (k : ℕ) → first ≤ k → k ≤ end → int_le (squared_distance_at q.now k) (square -ℤ pos 1) ≡ (nat_le result.0 k && nat_lt k result.1) }
-    ensures cost { probes.new ≤ probes.old + 3 }
-    ensures least { probes.old ≤ probes.new }
+    ensures cost { StepsAtMost probes.old probes.new 3 }
 {
     let (at_first, at_end) = are_at(q, square, first, end, probes);
     if at_first && at_end && stays(q, square, first, end, probes) {
@@ -171,10 +169,9 @@ fn stretch_below<M: Ledger>(
 // `square` at both is then `square` at all numbers: the motions keep their distance.
 fn stays<M: Ledger>(q: &Quad, square: i128, first: u32, end: u32, probes: &mut Steps<M>) -> bool
     requires ordered { first ≤ end }
-    requires in_range { end ≤ LAST_TICK }
+    requires in_range { IsTick end }
     ensures between { result ≡ (nat_lt (first + 1) end && int_eq (squared_distance_at q.now (first + 1)) square) }
-    ensures cost { probes.new ≤ probes.old + 1 }
-    ensures least { probes.old ≤ probes.new }
+    ensures cost { StepsAtMost probes.old probes.new 1 }
 {
     first + 1 < end && is_at(q, square, first + 1, probes)
 }
@@ -189,8 +186,7 @@ fn are_at<M: Ledger>(
 ) -> (bool, bool)
     ensures first { result.0 ≡ int_eq (squared_distance_at q.now first) square }
     ensures end { result.1 ≡ int_eq (squared_distance_at q.now end) square }
-    ensures cost { probes.new ≤ probes.old + 2 }
-    ensures least { probes.old ≤ probes.new }
+    ensures cost { StepsAtMost probes.old probes.new 2 }
 {
     let at_first = is_at(q, square, first, probes);
     if first == end {

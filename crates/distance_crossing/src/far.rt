@@ -1,6 +1,6 @@
 //! Whether two motions keep further apart than a distance on one axis, told by the two ends of a window alone.
-ghost use Rattle.std.specs.Prelude.{◌≡◌, ℕ, ◌*◌, ◌≤◌, ◌&&◌, true, pos, ◌+ℤ◌, ◌-ℤ◌, ◌*ℤ◌, ◌≤ℤ◌, ◌<ℤ◌, int_lt, unsigned_abs};
-ghost use Rattle.fixed_point.specs.declared.number.TheConstants.{FIX_LIMIT, SLOPE_LIMIT};
+ghost use Rattle.std.specs.Prelude.{◌≡◌, ℕ, ◌*◌, ◌≤◌, ◌&&◌, true, pos, ◌+ℤ◌, ◌-ℤ◌, ◌*ℤ◌, ◌≤ℤ◌, ◌<ℤ◌, int_lt};
+ghost use Rattle.fixed_point.specs.Sizes.{IsFixDifference, IsSlopeDifference};
 ghost use Rattle.geometry.specs.Plane.{square};
 ghost use Rattle.linear_crossing.specs.Moving.{distance_after};
 ghost use Rattle.distance_crossing.specs.Far.{pass_by, stays_past};
@@ -37,7 +37,7 @@ fn stays_past(from: Fix, to: Fix, from_step: Slope, to_step: Slope, c: Fix, last
 #[inline]
 fn step_apart(a: Slope, b: Slope) -> i64
     ensures value { result ≡ a -ℤ b }
-    ensures size { unsigned_abs result ≤ 2 * SLOPE_LIMIT }
+    ensures size { IsSlopeDifference result }
 {
     a.raw() - b.raw()
 }
@@ -45,8 +45,8 @@ fn step_apart(a: Slope, b: Slope) -> i64
 // A difference of coordinates so many ticks later.
 #[inline]
 fn later(start: i64, step: i64, ticks: u32) -> i64
-    requires start_size { unsigned_abs start ≤ 2 * FIX_LIMIT }
-    requires step_size { unsigned_abs step ≤ 2 * SLOPE_LIMIT }
+    requires start_size { IsFixDifference start }
+    requires step_size { IsSlopeDifference step }
     ensures { result ≡ start +ℤ step *ℤ pos ticks }
 {
     start + step * i64::from(ticks)

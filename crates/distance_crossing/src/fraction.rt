@@ -3,6 +3,7 @@ ghost use Rattle.std.specs.Prelude.{◌≡◌, ◌*◌, ◌^◌, ◌<◌, ◌≤
 ghost use Rattle.geometry.specs.Plane.{squared_distance};
 ghost use Rattle.geometry.specs.declared.limits.TheConstants.{RADIUS_LIMIT};
 ghost use Rattle.distance_crossing.specs.LeastCircle.{least_over, least_under, over_of, under_of};
+ghost use Rattle.distance_crossing.specs.Sizes.{AreSquares, AreSquaresUpTo, IsAreaWithin};
 
 use crate::circle::is_wide;
 use exact::times;
@@ -53,13 +54,9 @@ pub fn least_circle(p: &Point, q: &Point, s: &Point) -> Fraction
 
 // The same by the squares of the sides and the cross product of two of them.
 fn by_sides(a: i128, b: i128, c: i128, area: i128) -> Fraction
-    requires a_least { pos 0 ≤ℤ a }
-    requires b_least { pos 0 ≤ℤ b }
-    requires c_least { pos 0 ≤ℤ c }
-    requires a_most { unsigned_abs a ≤ 4 * RADIUS_LIMIT ^ 2 }
-    requires b_most { unsigned_abs b ≤ 4 * RADIUS_LIMIT ^ 2 }
-    requires c_most { unsigned_abs c ≤ 4 * RADIUS_LIMIT ^ 2 }
-    requires a_and_b { unsigned_abs area * unsigned_abs area ≤ unsigned_abs a * unsigned_abs b }
+    requires squares { AreSquares a b c }
+    requires sizes { AreSquaresUpTo (4 * RADIUS_LIMIT ^ 2) a b c }
+    requires a_and_b { IsAreaWithin area a b }
     ensures over { pos result.over ≡ over_of a b c }
     ensures under { pos result.under ≡ under_of a b c area }
 {

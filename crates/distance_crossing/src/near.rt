@@ -1,15 +1,18 @@
 //! The ticks at which two motions are within a distance.
-ghost use Rattle.std.specs.Prelude.{◌≡◌, ℕ, ◌+◌, ◌-◌, ◌^◌, ◌<◌, ◌≤◌, ◌≤ℤ◌, nat_le, int_le, option_to_list};
+ghost use Rattle.std.specs.Prelude.{◌≡◌, ℕ, ◌+◌, ◌-◌, ◌^◌, ◌<◌, ◌≤◌, ◌≤ℤ◌, int_le, option_to_list};
 ghost use Rattle.exact.specs.Rising.{DropsTo, RisesIn};
 ghost use Rattle.linear_crossing.specs.Relative.{squared_distance_at};
 ghost use Rattle.tick_set.specs.Runs.{IsRuns};
-ghost use Rattle.distance_crossing.specs.Ends.{BracketsFirst, BracketsLast};
+ghost use Rattle.tick_set.specs.Windows.{IsQueryWindow};
+ghost use Rattle.distance_crossing.specs.Ends.{BracketsFirst, BracketsLast, IsFirstNear, IsLastNear};
 ghost use Rattle.distance_crossing.specs.NearTicks.{is_near_at};
+ghost use Rattle.distance_crossing.specs.Sizes.{IfShort};
+ghost use Rattle.steps.specs.Counting.{StepsAtMost};
 
 use linear_crossing::Quad;
 use std::sync::ledger::Ledger;
 use steps::Steps;
-use tick_set::{SPAN_LIMIT, Span, Window};
+use tick_set::{Span, Window};
 
 /// The most ticks from the first to the last of a window that takes the smaller number of probes. A longer one
 /// has up to [`SPAN_LIMIT`].
@@ -21,11 +24,10 @@ pub const SHORT_WINDOW: u32 = 1_000_000;
 /// It takes no memory. It probes the least distance, and on each side a guess of the end and a number next to it,
 /// and bisects what is left where the end is at neither.
 pub fn within<M: Ledger>(q: &Quad, limit: i128, w: Window, probes: &mut Steps<M>) -> Option<Span>
-    requires { w.hi - w.lo ≤ SPAN_LIMIT }
+    requires { IsQueryWindow w }
     ensures runs { IsRuns (is_near_at q.now limit w) (option_to_list result) }
-    ensures cost { probes.new ≤ probes.old + 60 }
-    ensures short_cost { w.hi - w.lo ≤ SHORT_WINDOW → probes.new ≤ probes.old + 44 }
-    ensures least { probes.old ≤ probes.new }
+    ensures cost { StepsAtMost probes.old probes.new 60 }
+    ensures short_cost { IfShort w (probes.new ≤ probes.old + 44) }
 {
     let last = w.hi - w.lo;
     let nearest = q.valley(last);
@@ -62,7 +64,7 @@ fn first_near<M: Ledger>(
     requires falls { DropsTo (squared_distance_at q.now) nearest }
     requires near { squared_distance_at q.now nearest ≤ℤ limit }
     ensures bound { result ≤ nearest }
-    ensures first { (k : ℕ) → k ≤ nearest → int_le (squared_distance_at q.now k) limit ≡ nat_le result k }
+    ensures first { IsFirstNear (squared_distance_at q.now) limit nearest result }
     ensures cost { (n : ℕ) → nearest < 2 ^ n → probes.new ≤ probes.old + n + 2 }
     ensures least { probes.old ≤ probes.new }
 {
@@ -83,8 +85,7 @@ fn around_first<M: Ledger>(
     requires falls { DropsTo (squared_distance_at q.now) nearest }
     requires near { squared_distance_at q.now nearest ≤ℤ limit }
     ensures round { BracketsFirst (squared_distance_at q.now) limit nearest result.0 result.1 }
-    ensures cost { probes.new ≤ probes.old + 2 }
-    ensures least { probes.old ≤ probes.new }
+    ensures cost { StepsAtMost probes.old probes.new 2 }
 {
     if guess < nearest && !is_within(q, limit, guess, probes) {
         if guess + 1 < nearest && !is_within(q, limit, guess + 1, probes) {
@@ -111,7 +112,7 @@ fn bisect_first<M: Ledger>(
     requires falls { DropsTo (squared_distance_at q.now) nearest }
     requires round { BracketsFirst (squared_distance_at q.now) limit nearest from until }
     ensures bound { result ≤ nearest }
-    ensures first { (k : ℕ) → k ≤ nearest → int_le (squared_distance_at q.now k) limit ≡ nat_le result k }
+    ensures first { IsFirstNear (squared_distance_at q.now) limit nearest result }
     ensures cost { (n : ℕ) → until - from < 2 ^ n → probes.new ≤ probes.old + n }
     ensures least { probes.old ≤ probes.new }
 {
@@ -144,7 +145,7 @@ fn last_near<M: Ledger>(
     requires near { squared_distance_at q.now nearest ≤ℤ limit }
     ensures from { nearest ≤ result }
     ensures bound { result ≤ last }
-    ensures last { (k : ℕ) → nearest ≤ k → k ≤ last → int_le (squared_distance_at q.now k) limit ≡ nat_le k result }
+    ensures last { IsLastNear (squared_distance_at q.now) limit nearest last result }
     ensures cost { (n : ℕ) → last - nearest < 2 ^ n → probes.new ≤ probes.old + n + 2 }
     ensures least { probes.old ≤ probes.new }
 {
@@ -167,8 +168,7 @@ fn around_last<M: Ledger>(
     requires rises { RisesIn (squared_distance_at q.now) nearest last }
     requires near { squared_distance_at q.now nearest ≤ℤ limit }
     ensures round { BracketsLast (squared_distance_at q.now) limit nearest last result.0 result.1 }
-    ensures cost { probes.new ≤ probes.old + 2 }
-    ensures least { probes.old ≤ probes.new }
+    ensures cost { StepsAtMost probes.old probes.new 2 }
 {
     if nearest < guess && !is_within(q, limit, guess, probes) {
         if nearest < guess - 1 && !is_within(q, limit, guess - 1, probes) {
@@ -197,7 +197,7 @@ fn bisect_last<M: Ledger>(
     requires round { BracketsLast (squared_distance_at q.now) limit nearest last from until }
     ensures from { nearest ≤ result }
     ensures bound { result ≤ last }
-    ensures last { (k : ℕ) → nearest ≤ k → k ≤ last → int_le (squared_distance_at q.now k) limit ≡ nat_le k result }
+    ensures last { IsLastNear (squared_distance_at q.now) limit nearest last result }
     ensures cost { (n : ℕ) → until - from < 2 ^ n → probes.new ≤ probes.old + n }
     ensures least { probes.old ≤ probes.new }
 {

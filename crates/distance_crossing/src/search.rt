@@ -1,7 +1,7 @@
 //! The numbers at which the positions of three motions fit a circle, found by bisections. The least circle
 //! round them first shrinks and then grows, so these numbers are consecutive.
 ghost use Rattle.std.specs.Prelude.{◌≡◌, ℕ, ◌+◌, ◌-◌, ◌<◌, ◌≤◌, ◌&&◌, true, false, pos, ◌≤ℤ◌, nat_le, option_to_list, IfSome, IfNone};
-ghost use Rattle.tick_set.specs.Ticks.{within};
+ghost use Rattle.tick_set.specs.Ticks.{IsTick, within};
 ghost use Rattle.tick_set.specs.Runs.{IsRuns};
 ghost use Rattle.distance_crossing.specs.Trials.{fit_at, over_at, under_at, IsClose};
 ghost use Rattle.distance_crossing.specs.declared.search.Place.TheVariants.{Here, Before, After};
@@ -9,7 +9,7 @@ ghost use Rattle.distance_crossing.specs.declared.search.Place.TheVariants.{Here
 use crate::circle::squared_width;
 use crate::fraction::{Fraction, least_circle};
 use crate::trial::Trial;
-use tick_set::{LAST_TICK, Span, Window};
+use tick_set::{Span, Window};
 
 // Where the numbers at which the positions fit lie, seen from one number.
 #[derive(Clone, Copy)]
@@ -59,7 +59,7 @@ fn place_at(m: &Trial, k: u32, last: u32) -> Place
 
 // One of the numbers of `first..=last` at which the positions fit.
 fn some_fitting(m: &Trial, first: u32, last: u32) -> Option<u32>
-    requires in_range { last ≤ LAST_TICK }
+    requires in_range { IsTick last }
     requires close { (t : ℕ) → first ≤ t → t ≤ last → IsClose m.now t }
     ensures inside { IfSome result (λ k. (first ≤ k) × (k ≤ last)) }
     ensures fits { IfSome result (λ k. fit_at m.now k ≡ true) }

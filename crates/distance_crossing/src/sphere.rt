@@ -1,12 +1,14 @@
 //! The ticks at which up to four motions fit a circle.
-ghost use Rattle.std.specs.Prelude.{◌≡◌, ℕ, ◌+◌, ◌-◌, ◌*◌, ◌<◌, ◌≤◌, ◌&&◌, pos, ◌*ℤ◌, ◌≤ℤ◌, true, length, option_to_list, All, IfOk};
-ghost use Rattle.geometry.specs.Circle.{three_fit};
+ghost use Rattle.std.specs.Prelude.{◌≡◌, ℕ, ◌-◌, ◌*◌, ◌<◌, ◌≤◌, ◌&&◌, pos, ◌*ℤ◌, true, length, option_to_list, All, IfOk};
+ghost use Rattle.geometry.specs.Circle.{IsRadius, three_fit};
 ghost use Rattle.linear_crossing.specs.Moving.{position_after, IsInReach};
 ghost use Rattle.tick_set.specs.Ticks.{within};
 ghost use Rattle.tick_set.specs.Runs.{IsRuns, spans_have};
+ghost use Rattle.tick_set.specs.Windows.{IsQueryWindow};
 ghost use Rattle.distance_crossing.specs.Far.{pass_by};
-ghost use Rattle.distance_crossing.specs.NearTicks.{all_near, are_near, are_together, pairs_near};
+ghost use Rattle.distance_crossing.specs.NearTicks.{AreLinesInReach, all_near, are_near, are_together, pairs_near};
 ghost use Rattle.distance_crossing.specs.Close.{ArePositionsClose};
+ghost use Rattle.steps.specs.Counting.{StepsAtMost};
 
 use crate::circle::squared_width;
 use crate::far::pass_by;
@@ -14,13 +16,12 @@ use crate::near::within;
 use crate::search::fitting;
 use crate::trial::Trial;
 use fixed_point::Fix;
-use geometry::RADIUS_LIMIT;
 use interval_set::IntervalSet;
 use linear_crossing::{Line, Quad};
 use std::alloc::{AllocError, Global};
 use std::sync::ledger::Ledger;
 use steps::Steps;
-use tick_set::{SPAN_LIMIT, Span, TickSet, Window};
+use tick_set::{Span, TickSet, Window};
 
 /// The ticks of the window at which the positions of up to four motions fit a circle of radius `r`, from 0 to
 /// 10^6 thousandths, as a set. Each motion begins within [`linear_crossing::COORDINATE_LIMIT`] of 0. It fails
@@ -32,14 +33,11 @@ pub fn sphere_ticks<M: Ledger>(
     w: Window,
     probes: &mut Steps<M>,
 ) -> Result<IntervalSet, AllocError>
-    requires least { pos 0 ≤ℤ r }
-    requires most { r ≤ℤ pos RADIUS_LIMIT }
-    requires count { length lines.now ≤ 4 }
-    requires in_reach { All IsInReach lines.now }
-    requires length { w.hi - w.lo ≤ SPAN_LIMIT }
+    requires radius { IsRadius r }
+    requires lines { AreLinesInReach lines.now }
+    requires length { IsQueryWindow w }
     ensures ticks { IfOk result (λ s. (t : ℕ) → spans_have s t ≡ are_together r lines.now w t) }
-    ensures cost { probes.new ≤ probes.old + 360 }
-    ensures least { probes.old ≤ probes.new }
+    ensures cost { StepsAtMost probes.old probes.new 360 }
 {
     match together(r, lines, w, probes) {
         Some(span) => IntervalSet::of_span(alloc, span),
@@ -52,14 +50,11 @@ pub fn sphere_ticks<M: Ledger>(
 ///
 /// It takes no memory, and walks no window: it ends at the first pair that is never near, and bisects.
 pub fn together<M: Ledger>(r: Fix, lines: &[Line], w: Window, probes: &mut Steps<M>) -> Option<Span>
-    requires least { pos 0 ≤ℤ r }
-    requires most { r ≤ℤ pos RADIUS_LIMIT }
-    requires count { length lines.now ≤ 4 }
-    requires in_reach { All IsInReach lines.now }
-    requires length { w.hi - w.lo ≤ SPAN_LIMIT }
+    requires radius { IsRadius r }
+    requires lines { AreLinesInReach lines.now }
+    requires length { IsQueryWindow w }
     ensures runs { IsRuns (are_together r lines.now w) (option_to_list result) }
-    ensures cost { probes.new ≤ probes.old + 360 }
-    ensures least { probes.old ≤ probes.new }
+    ensures cost { StepsAtMost probes.old probes.new 360 }
 {
     let near = near_pairs(r, lines, w, probes)?;
     match lines {
@@ -76,8 +71,7 @@ pub fn together<M: Ledger>(r: Fix, lines: &[Line], w: Window, probes: &mut Steps
 
 // The ticks of the span at which the positions of three motions fit, where each two are near throughout.
 fn three_together(r: Fix, p: &Line, q: &Line, s: &Line, w: Window, span: Span) -> Option<Span>
-    requires least { pos 0 ≤ℤ r }
-    requires most { r ≤ℤ pos RADIUS_LIMIT }
+    requires radius { IsRadius r }
     requires p_in_reach { IsInReach p.now }
     requires q_in_reach { IsInReach q.now }
     requires s_in_reach { IsInReach s.now }
@@ -98,14 +92,11 @@ fn three_together(r: Fix, p: &Line, q: &Line, s: &Line, w: Window, span: Span) -
 
 // The ticks of the window at which each two motions are within the diameter of each other.
 fn near_pairs<M: Ledger>(r: Fix, lines: &[Line], w: Window, probes: &mut Steps<M>) -> Option<Span>
-    requires least { pos 0 ≤ℤ r }
-    requires most { r ≤ℤ pos RADIUS_LIMIT }
-    requires count { length lines.now ≤ 4 }
-    requires in_reach { All IsInReach lines.now }
-    requires length { w.hi - w.lo ≤ SPAN_LIMIT }
+    requires radius { IsRadius r }
+    requires lines { AreLinesInReach lines.now }
+    requires length { IsQueryWindow w }
     ensures runs { IsRuns (λ t. within w.lo w.hi t && pairs_near r lines.now (t - w.lo)) (option_to_list result) }
-    ensures cost { probes.new ≤ probes.old + 360 }
-    ensures least { probes.old ≤ probes.new }
+    ensures cost { StepsAtMost probes.old probes.new 360 }
 {
     let mut span = w.span();
     let mut rest = lines;
@@ -125,14 +116,12 @@ fn all_near<M: Ledger>(
     w: Window,
     probes: &mut Steps<M>,
 ) -> Option<Span>
-    requires least { pos 0 ≤ℤ r }
-    requires most { r ≤ℤ pos RADIUS_LIMIT }
+    requires radius { IsRadius r }
     requires p_in_reach { IsInReach p.now }
     requires others_in_reach { All IsInReach others.now }
-    requires length { w.hi - w.lo ≤ SPAN_LIMIT }
+    requires length { IsQueryWindow w }
     ensures runs { IsRuns (λ t. within w.lo w.hi t && all_near r p.now others.now (t - w.lo)) (option_to_list result) }
-    ensures cost { probes.new ≤ probes.old + 60 * length others.now }
-    ensures least { probes.old ≤ probes.new }
+    ensures cost { StepsAtMost probes.old probes.new (60 * length others.now) }
 {
     let mut span = w.span();
     let mut rest = others;
@@ -146,14 +135,12 @@ fn all_near<M: Ledger>(
 
 // The ticks of the window at which two motions are within the diameter of each other.
 fn near_run<M: Ledger>(r: Fix, p: &Line, q: &Line, w: Window, probes: &mut Steps<M>) -> Option<Span>
-    requires least { pos 0 ≤ℤ r }
-    requires most { r ≤ℤ pos RADIUS_LIMIT }
+    requires radius { IsRadius r }
     requires p_in_reach { IsInReach p.now }
     requires q_in_reach { IsInReach q.now }
-    requires length { w.hi - w.lo ≤ SPAN_LIMIT }
+    requires length { IsQueryWindow w }
     ensures runs { IsRuns (are_near r p.now q.now w) (option_to_list result) }
-    ensures cost { probes.new ≤ probes.old + 60 }
-    ensures least { probes.old ≤ probes.new }
+    ensures cost { StepsAtMost probes.old probes.new 60 }
     ensures far { pass_by (pos 2 *ℤ r) p.now q.now (w.hi - w.lo) ≡ true → probes.new ≡ probes.old }
 {
     if pass_by(p, q, diameter(r), w.hi - w.lo) {
@@ -163,8 +150,7 @@ fn near_run<M: Ledger>(r: Fix, p: &Line, q: &Line, w: Window, probes: &mut Steps
 }
 
 fn diameter(r: Fix) -> Fix
-    requires least { pos 0 ≤ℤ r }
-    requires most { r ≤ℤ pos RADIUS_LIMIT }
+    requires { IsRadius r }
     ensures { result ≡ pos 2 *ℤ r }
 {
     Fix::of(2 * r.raw()).unwrap()

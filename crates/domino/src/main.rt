@@ -2,11 +2,12 @@
 //! standard output. Texts are saved to the files of the current folder, and read from them.
 #![tactic(auto)]
 
-ghost use Rattle.std.specs.Prelude.{◌≡◌, ◌<◌, ℕ, map, string_bytes};
+ghost use Rattle.std.specs.Prelude.{◌<◌, ℕ, map, string_bytes};
 ghost use Rattle.run_ends.specs.Ends.{seen_by};
 ghost use Rattle.domino_run.specs.Words.{words_of};
 ghost use Rattle.domino_run.specs.Theorem.{RunsAs};
 ghost use Rattle.domino_run.specs.declared.running.TheConstants.{INPUT_LIMIT};
+ghost use Rattle.steps.specs.Counting.{IsBlankOf};
 
 use domino_run::{Counters, run};
 use outside::{DirShelf, Shelf, Sink, Source, StdSink, StdSource};
@@ -63,9 +64,7 @@ fn count_reads<S: Source, K: Sink, F: Shelf, L: Ledger>(
     reads: Blank,
     probes: Blank,
 ) -> Status
-    requires name { reads.name ≡ L.name }
-    requires parts { reads.parts ≡ L.parts }
-    requires some { 0 < reads.parts }
+    requires blank { IsBlankOf reads.name reads.parts L.name L.parts }
     requires one { 0 < probes.parts }
     ensures { (looks : ℕ) × RunsAs INPUT_LIMIT (words_of (map string_bytes words.now))
         (seen_by S.faults K.faults F.faults S.left K.written F.texts outside.old)
@@ -84,9 +83,7 @@ fn count_probes<S: Source, K: Sink, F: Shelf, L: Ledger, M: Ledger>(
     reads: Steps<L>,
     probes: Blank,
 ) -> Status
-    requires name { probes.name ≡ M.name }
-    requires parts { probes.parts ≡ M.parts }
-    requires some { 0 < probes.parts }
+    requires { IsBlankOf probes.name probes.parts M.name M.parts }
     ensures { (looks : ℕ) × RunsAs INPUT_LIMIT (words_of (map string_bytes words.now))
         (seen_by S.faults K.faults F.faults S.left K.written F.texts outside.old)
         (seen_by S.faults K.faults F.faults S.left K.written F.texts outside.new)

@@ -1,11 +1,12 @@
 //! Queries of one variable at one object.
 
-ghost use Rattle.std.specs.Prelude.{◌≡◌, ◌≤◌, ◌+◌, ◌&&◌, ℕ, [], ◌∷◌, length, IfOk};
+ghost use Rattle.std.specs.Prelude.{◌≡◌, ◌&&◌, ℕ, [], ◌∷◌, length, IfOk};
 ghost use Rattle.tick_set.specs.Ticks.{within};
 ghost use Rattle.formula.specs.Tree.{formula_view, resolved_view};
 ghost use Rattle.formula.specs.Value.{no_values};
 ghost use Rattle.evaluator.specs.Interpreting.{CanAsk, IsOver};
 ghost use Rattle.evaluator.specs.Rows.{is_full, query_reads_upto};
+ghost use Rattle.steps.specs.Counting.{StepsAtMost};
 
 use crate::full::key_of;
 use crate::ticks::ticks_of;
@@ -36,8 +37,7 @@ pub fn ticks_alone<S: Temporal, I: Interpreter<S>, L: Ledger, M: Ledger>(
     requires object { I.object_fits source.now w.lo w.hi id }
     ensures ticks { IfOk result (λ s. (b : ℕ → ℕ) → b 0 ≡ id → (t : ℕ) → S.member s t ≡ (within w.lo w.hi t
         && is_full (I.interpretation source.now) (I.present source.now) (resolved_view q.now) w.hi b t)) }
-    ensures least { reads.old ≤ reads.new }
-    ensures most { reads.new ≤ reads.old + query_reads_upto ((id ∷ []) ∷ []) w.lo w.hi (resolved_view q.now) }
+    ensures reads { StepsAtMost reads.old reads.new (query_reads_upto ((id ∷ []) ∷ []) w.lo w.hi (resolved_view q.now)) }
 {
     let binding = key_of(id);
     let env = Env::new();

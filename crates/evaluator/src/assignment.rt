@@ -1,7 +1,7 @@
 //! Assignments, and the row of one key of their terms.
 
-ghost use Rattle.std.specs.Prelude.{◌≡◌, ◌≤◌, true, length, IfOk};
-ghost use Rattle.formula_shape.specs.declared.limits.TheConstants.{OBJECT_LIMIT};
+ghost use Rattle.std.specs.Prelude.{◌≡◌, true, IfOk};
+ghost use Rattle.formula_shape.specs.Sizes.{FitInQuery};
 ghost use Rattle.relation.specs.Frames.{agrees};
 ghost use Rattle.formula.specs.Resolved.{are_distinct};
 ghost use Rattle.relation.specs.Key.{are_known, key_in};
@@ -29,7 +29,7 @@ pub(crate) fn row_of_key<'d, S: Temporal>(
     d: &'d Domains,
     w: Window,
 ) -> Result<Relation<'d, S>, AllocError>
-    requires few { length vars.now ≤ OBJECT_LIMIT }
+    requires few { FitInQuery vars.now }
     requires known { are_known d.now vars.now ≡ true }
     requires distinct { are_distinct vars.now ≡ true }
     requires inside { key_in d.now vars.now key.now ≡ true }

@@ -1,6 +1,6 @@
 //! The rows of formulas that are evaluated binding by binding.
 
-ghost use Rattle.std.specs.Prelude.{◌≡◌, ◌≤◌, ◌+◌, ◌*◌, ◌∷◌, [], true, length, IfOk, OnOk};
+ghost use Rattle.std.specs.Prelude.{◌≡◌, ◌*◌, ◌∷◌, [], true, length, IfOk, OnOk};
 ghost use Rattle.std.specs.List.{list_all};
 ghost use Rattle.formula.specs.Tree.{formula_view};
 ghost use Rattle.formula.specs.Variables.{variables_of};
@@ -13,6 +13,7 @@ ghost use Rattle.evaluator.specs.Keys.{AreAscendingKeys};
 ghost use Rattle.evaluator.specs.Rows.{AreRowsOf, reads_upto};
 ghost use Rattle.evaluator.specs.inner.ByBinding.{holds_at, is_over, reads_here};
 ghost use Rattle.evaluator.specs.inner.Filled.{IsFilled, keys_behind};
+ghost use Rattle.steps.specs.Counting.{StepsAtMost};
 
 use crate::keys::{keys_of, with_first};
 use crate::ticks::ticks_of;
@@ -46,8 +47,7 @@ pub(crate) fn rows_by_key<'d, S: Temporal, I: Interpreter<S>, L: Ledger, M: Ledg
         (I.term_fits source.now w.lo w.hi) d.now w.lo w.hi (formula_view f.now) env.now }
     ensures rows { IfOk result (λ r. AreRowsOf S.member (I.interpretation source.now) d.now w.lo w.hi
         (formula_view f.now) env.now r) }
-    ensures least { reads.old ≤ reads.new }
-    ensures most { reads.new ≤ reads.old + reads_upto d.now w.lo w.hi (formula_view f.now) }
+    ensures reads { StepsAtMost reads.old reads.new (reads_upto d.now w.lo w.hi (formula_view f.now)) }
 {
     // The number of domains bounds the variables.
     let _ = d.len();
@@ -93,8 +93,7 @@ fn put_rows<'d, S: Temporal, I: Interpreter<S>, L: Ledger, M: Ledger>(
     requires above { list_all (λ r. key_below r.key (id ∷ [])) made.old.rows ≡ true }
     ensures rows { OnOk result (IsFilled S.member (holds_at (I.interpretation source.now) vars.now w.lo w.hi
         (formula_view f.now) env.now) (keys_behind id later.now) made.old made.new) }
-    ensures least { reads.old ≤ reads.new }
-    ensures most { reads.new ≤ reads.old + length later.now * reads_here w.lo w.hi (formula_view f.now) }
+    ensures reads { StepsAtMost reads.old reads.new (length later.now * reads_here w.lo w.hi (formula_view f.now)) }
 {
     'keys: for key in later {
         let key = with_first(id, key);
@@ -125,8 +124,7 @@ fn put_row<'d, S: Temporal, I: Interpreter<S>, L: Ledger, M: Ledger>(
     requires above { list_all (λ r. key_below r.key key) made.old.rows ≡ true }
     ensures rows { OnOk result (IsFilled S.member (holds_at (I.interpretation source.now) vars.now w.lo w.hi
         (formula_view f.now) env.now) (key ∷ []) made.old made.new) }
-    ensures least { reads.old ≤ reads.new }
-    ensures most { reads.new ≤ reads.old + reads_here w.lo w.hi (formula_view f.now) }
+    ensures reads { StepsAtMost reads.old reads.new (reads_here w.lo w.hi (formula_view f.now)) }
 {
     let binding = binding_at(vars, &key);
     let ticks = ticks_of(alloc, source, f, &binding, env, w, reads, probes)?;

@@ -1,9 +1,9 @@
 //! Domains with the objects of some rows alone.
 
-ghost use Rattle.std.specs.Prelude.{◌≡◌, ◌<◌, ◌∷◌, ◌++◌, [], ℕ, length, map, slice_index, IfOk, OnOk};
+ghost use Rattle.std.specs.Prelude.{◌≡◌, ◌<◌, ◌∷◌, ◌++◌, [], ℕ, map, slice_index, IfOk, OnOk};
 ghost use Rattle.std.specs.List.{filter};
 ghost use Rattle.std.specs.List.Sorted.{IsStrictlyIncreasing};
-ghost use Rattle.formula_shape.specs.declared.limits.TheConstants.{OBJECT_LIMIT};
+ghost use Rattle.formula_shape.specs.Sizes.{OneMoreFits};
 ghost use Rattle.relation.specs.Key.{ids_of_variable};
 ghost use Rattle.evaluator.specs.inner.Column.{AreForRows, first_ids, ids_left};
 
@@ -50,7 +50,7 @@ fn push_left<S: Temporal>(
 ) -> Result<(), AllocError>
     requires whole { ids.now ≡ ids_of_variable rows.now.domains var }
     requires ascending { IsStrictlyIncreasing ids.now }
-    requires few { length made.old < OBJECT_LIMIT }
+    requires few { OneMoreFits made.old }
     ensures { OnOk result (made.new ≡ made.old ++ ids_left rows.now.vars rows.now.rows rows.now.domains var ∷ []) }
 {
     rows.rows_stand_in_order();

@@ -1,16 +1,18 @@
 //! The rows of queries.
 
-ghost use Rattle.std.specs.Prelude.{◌≡◌, ◌≤◌, ◌<◌, ◌+◌, ◌&&◌, not, ℕ, [], ◌∷◌, true, length, IfOk};
+ghost use Rattle.std.specs.Prelude.{◌≡◌, ◌<◌, ◌&&◌, not, ℕ, [], ◌∷◌, true, length, IfOk};
 ghost use Rattle.tick_set.specs.Ticks.{between, within};
 ghost use Rattle.formula.specs.Tree.{formula_view, resolved_view};
 ghost use Rattle.formula.specs.Value.{no_values};
 ghost use Rattle.formula_shape.specs.declared.limits.TheConstants.{OBJECT_LIMIT};
-ghost use Rattle.relation.specs.Frames.{IsIn, domain_size, frame, frame_of, vars_of_both};
+ghost use Rattle.relation.specs.Frames.{EachObjectOf, HasFrame, IsIn, SameFrame, domain_size, frame, vars_of_both};
 ghost use Rattle.relation.specs.Key.{has_id, ids_of_variable};
 ghost use Rattle.relation.specs.Rows.{table_has};
 ghost use Rattle.evaluator.specs.Interpreting.{CanAsk, IsOver};
 ghost use Rattle.evaluator.specs.Rows.{AreRowsWhere, is_full, query_reads_upto};
 ghost use Rattle.evaluator.specs.inner.Away.{AreAwayFor};
+ghost use Rattle.exact.specs.Lists.{SameLength};
+ghost use Rattle.steps.specs.Counting.{StepsAtMost};
 
 use crate::rows::rows_of;
 use crate::variables::has_variable;
@@ -34,15 +36,14 @@ pub fn full_rows<'d, S: Temporal, I: Interpreter<S>, L: Ledger, M: Ledger>(
     reads: &mut Steps<L>,
     probes: &mut Steps<M>,
 ) -> Result<Relation<'d, S>, AllocError>
-    requires domains { length d.now ≡ length q.now.classes }
+    requires domains { SameLength d.now q.now.classes }
     requires over { IsOver (length d.now) (formula_view q.now.formula) }
     requires can { CanAsk (I.interpretation source.now) (I.atom_fits source.now w.lo w.hi)
         (I.term_fits source.now w.lo w.hi) d.now w.lo w.hi (formula_view q.now.formula) no_values }
     requires objects { (v id : ℕ) → has_id (ids_of_variable d.now v) id ≡ true → I.object_fits source.now w.lo w.hi id }
     ensures rows { IfOk result (λ r. AreRowsWhere S.member d.now w.lo w.hi (between 0 (length q.now.classes))
         (is_full (I.interpretation source.now) (I.present source.now) (resolved_view q.now) w.hi) r) }
-    ensures least { reads.old ≤ reads.new }
-    ensures most { reads.new ≤ reads.old + query_reads_upto d.now w.lo w.hi (resolved_view q.now) }
+    ensures reads { StepsAtMost reads.old reads.new (query_reads_upto d.now w.lo w.hi (resolved_view q.now)) }
 {
     let mut made = rows_of(alloc, source, &q.formula, d, &Env::new(), w, reads, probes)?;
     let count = d.len() as u8;
@@ -64,14 +65,13 @@ fn absence_for_rows<'d, S: Temporal, I: Interpreter<S>, L: Ledger>(
     w: Window,
     reads: &mut Steps<L>,
 ) -> Result<Relation<'d, S>, AllocError>
-    requires frame { frame rows.now ≡ frame_of d.now w.lo w.hi }
+    requires frame { HasFrame rows.now d.now w.lo w.hi }
     requires known { var < length d.now }
-    requires objects { (id : ℕ) → has_id (ids_of_variable d.now var) id ≡ true → I.object_fits source.now w.lo w.hi id }
+    requires objects { EachObjectOf d.now var (I.object_fits source.now w.lo w.hi) }
     ensures ticks { IfOk result (AreAwayFor S.member (I.present source.now) w.lo w.hi var rows.now) }
     ensures vars { IfOk result (λ r. r.vars ≡ var ∷ []) }
-    ensures frame { IfOk result (λ r. frame r ≡ frame_of d.now w.lo w.hi) }
-    ensures least { reads.old ≤ reads.new }
-    ensures most { reads.new ≤ reads.old + domain_size d.now var }
+    ensures frame { IfOk result (λ r. HasFrame r d.now w.lo w.hi) }
+    ensures reads { StepsAtMost reads.old reads.new (domain_size d.now var) }
 {
     if rows.vars() == &[var][..] {
         let away = absence_of_rows(alloc, source, var, rows, d, w, reads)?;
@@ -92,15 +92,14 @@ fn absence_of_rows<'d, S: Temporal, I: Interpreter<S>, L: Ledger>(
     w: Window,
     reads: &mut Steps<L>,
 ) -> Result<Relation<'d, S>, AllocError>
-    requires frame { frame rows.now ≡ frame_of d.now w.lo w.hi }
+    requires frame { HasFrame rows.now d.now w.lo w.hi }
     requires one { rows.now.vars ≡ var ∷ [] }
     requires known { var < length d.now }
-    requires objects { (id : ℕ) → has_id (ids_of_variable d.now var) id ≡ true → I.object_fits source.now w.lo w.hi id }
+    requires objects { EachObjectOf d.now var (I.object_fits source.now w.lo w.hi) }
     ensures ticks { IfOk result (AreAwayFor S.member (I.present source.now) w.lo w.hi var rows.now) }
     ensures vars { IfOk result (λ r. r.vars ≡ var ∷ []) }
-    ensures frame { IfOk result (λ r. frame r ≡ frame_of d.now w.lo w.hi) }
-    ensures least { reads.old ≤ reads.new }
-    ensures most { reads.new ≤ reads.old + domain_size d.now var }
+    ensures frame { IfOk result (λ r. HasFrame r d.now w.lo w.hi) }
+    ensures reads { StepsAtMost reads.old reads.new (domain_size d.now var) }
 {
     rows.rows_stand_in_order();
     // Each domain ascends.
@@ -124,11 +123,10 @@ fn rows_of_absence<'d, S: Temporal, I: Interpreter<S>, L: Ledger>(
     reads: &mut Steps<L>,
 ) -> Result<Relation<'d, S>, AllocError>
     requires known { var < length d.now }
-    requires objects { (id : ℕ) → has_id (ids_of_variable d.now var) id ≡ true → I.object_fits source.now w.lo w.hi id }
+    requires objects { EachObjectOf d.now var (I.object_fits source.now w.lo w.hi) }
     ensures rows { IfOk result (λ r. AreRowsWhere S.member d.now w.lo w.hi (var ∷ [])
         (λ b t. not (I.present source.now (b var) t)) r) }
-    ensures least { reads.old ≤ reads.new }
-    ensures most { reads.new ≤ reads.old + domain_size d.now var }
+    ensures reads { StepsAtMost reads.old reads.new (domain_size d.now var) }
 {
     let mut away = Relation::empty(alloc, &[var], d, w);
     'ids: for id in d.of(var) {
@@ -155,7 +153,7 @@ fn while_there<'d, S: Temporal>(
     var: u8,
     away: &Relation<'d, S>,
 ) -> Result<Relation<'d, S>, AllocError>
-    requires frame { frame away.now ≡ frame rows }
+    requires frame { SameFrame away.now rows }
     requires ascend { vars_of_both rows.vars rows.vars ≡ rows.vars }
     requires one { away.now.vars ≡ var ∷ [] }
     requires few { var < OBJECT_LIMIT }
@@ -164,7 +162,7 @@ fn while_there<'d, S: Temporal>(
     ensures ticks { IfOk result (λ r. (b : ℕ → ℕ) → IsIn rows.entry.domains b → (t : ℕ) → table_has S.member r b t
         ≡ (table_has S.member rows.entry b t && not (table_has S.member away.now b t))) }
     ensures vars { IfOk result (λ r. r.vars ≡ vars_of_both rows.entry.vars (var ∷ [])) }
-    ensures frame { IfOk result (λ r. frame r ≡ frame rows.entry) }
+    ensures frame { IfOk result (λ r. SameFrame r rows.entry) }
 {
     if away.is_empty() && has_variable(rows.vars(), var) {
         return Ok(rows);

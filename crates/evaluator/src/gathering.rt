@@ -4,7 +4,7 @@ ghost use Rattle.std.specs.Prelude.{◌≡◌, ◌<◌, ℕ, true, length, IfOk}
 ghost use Rattle.formula.specs.VarSet.{set_has};
 ghost use Rattle.formula.specs.Variables.{variables_in};
 ghost use Rattle.formula_shape.specs.declared.limits.TheConstants.{OBJECT_LIMIT};
-ghost use Rattle.relation.specs.Frames.{IsIn, frame, frame_of};
+ghost use Rattle.relation.specs.Frames.{HasFrame, IsIn, frame};
 ghost use Rattle.relation.specs.Rows.{table_has};
 ghost use Rattle.evaluator.specs.Gathered.{ShareFrame, some_part_has};
 
@@ -30,7 +30,7 @@ pub(crate) fn united<'d, S: Temporal>(
     ensures ticks { IfOk result (λ r. (b : ℕ → ℕ) → IsIn d.now b → (t : ℕ) → table_has S.member r b t
         ≡ some_part_has S.member parts.entry.items b t) }
     ensures vars { IfOk result (λ r. r.vars ≡ variables_in (set_has set)) }
-    ensures frame { IfOk result (λ r. frame r ≡ frame_of d.now w.lo w.hi) }
+    ensures frame { IfOk result (λ r. HasFrame r d.now w.lo w.hi) }
 {
     let mut parts = parts;
     'parts: while let Some(first) = parts.pop_front() {

@@ -3,6 +3,7 @@
 ghost use Rattle.std.specs.Prelude.{◌≡◌, ◌<◌, ◌≤◌, ◌∷◌, ◌++◌, ◌+◌, [], true, length, map, nat_lt, IfOk, OnOk};
 ghost use Rattle.std.specs.List.{flat_map, list_all};
 ghost use Rattle.formula_shape.specs.declared.limits.TheConstants.{OBJECT_LIMIT};
+ghost use Rattle.formula_shape.specs.Sizes.{FitInQuery, OneMoreFits};
 ghost use Rattle.relation.specs.Key.{are_known};
 ghost use Rattle.evaluator.specs.Keys.{AreKeys};
 
@@ -13,7 +14,7 @@ use std::alloc::{AllocError, Global};
 // The keys of these variables: each choice of an object of each one's domain, ascending.
 pub(crate) fn keys_of(alloc: Global, d: &Domains, vars: &[u8]) -> Result<Few<Binding>, AllocError>
     requires known { are_known d.now vars.now ≡ true }
-    requires few { length vars.now ≤ OBJECT_LIMIT }
+    requires few { FitInQuery vars.now }
     ensures { IfOk result (λ keys. AreKeys d.now vars.now keys) }
 {
     let Some((var, vars)) = vars.split_first() else {
@@ -52,7 +53,7 @@ fn push_each(keys: &mut Vec<Binding>, id: u32, later: &[Binding]) -> Result<(), 
 
 // A key with an object in front.
 pub(crate) fn with_first(id: u32, key: &Binding) -> Binding
-    requires { length key.now < OBJECT_LIMIT }
+    requires { OneMoreFits key.now }
     ensures { result ≡ id ∷ key.now }
 {
     let mut made = Binding::new();

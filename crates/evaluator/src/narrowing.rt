@@ -1,9 +1,9 @@
 //! Domains with one object alone for some variables.
 
-ghost use Rattle.std.specs.Prelude.{◌≡◌, ◌<◌, ◌∷◌, ◌++◌, [], length, IfOk, OnOk};
+ghost use Rattle.std.specs.Prelude.{◌≡◌, ◌<◌, ◌∷◌, ◌++◌, [], IfOk, OnOk};
 ghost use Rattle.std.specs.List.Sorted.{IsStrictlyIncreasing};
 ghost use Rattle.std.specs.Option.{option_map_or};
-ghost use Rattle.formula_shape.specs.declared.limits.TheConstants.{OBJECT_LIMIT};
+ghost use Rattle.formula_shape.specs.Sizes.{OneMoreFits};
 ghost use Rattle.evaluator.specs.Keys.{AreNarrowed};
 
 use crate::variables::object_in;
@@ -37,7 +37,7 @@ fn push_ids(
     ids: &[u32],
 ) -> Result<(), AllocError>
     requires ascending { IsStrictlyIncreasing ids.now }
-    requires few { length made.old < OBJECT_LIMIT }
+    requires few { OneMoreFits made.old }
     ensures { OnOk result (made.new ≡ made.old ++ option_map_or (λ i. i ∷ []) id ids.now ∷ []) }
 {
     match id {

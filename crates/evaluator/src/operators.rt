@@ -3,7 +3,7 @@
 ghost use Rattle.std.specs.Prelude.{◌≡◌, ◌&&◌, ℕ, IfOk};
 ghost use Rattle.std.specs.List.Sorted.{IsStrictlyIncreasing};
 ghost use Rattle.tick_set.specs.Ticks.{within};
-ghost use Rattle.relation.specs.Frames.{IsIn, frame, vars_of_both};
+ghost use Rattle.relation.specs.Frames.{IsIn, SameFrame, frame, vars_of_both};
 ghost use Rattle.relation.specs.Rows.{table_has};
 ghost use Rattle.evaluator.specs.inner.Nodes.{changed_at, paired_in};
 
@@ -23,7 +23,7 @@ pub(crate) fn changed_rows<'d, S: Temporal>(
     ensures ticks { IfOk result (λ r. (b : ℕ → ℕ) → IsIn rows.now.domains b → (t : ℕ) → table_has S.member r b t
         ≡ (within rows.now.lo rows.now.hi t && changed_at change (table_has S.member rows.now b) rows.now.hi t)) }
     ensures vars { IfOk result (λ r. r.vars ≡ rows.now.vars) }
-    ensures frame { IfOk result (λ r. frame r ≡ frame rows.now) }
+    ensures frame { IfOk result (λ r. SameFrame r rows.now) }
 {
     // No window goes past the last tick.
     let _ = rows.window();
@@ -43,13 +43,13 @@ pub(crate) fn paired_rows<'d, S: Temporal>(
     left: &Relation<'d, S>,
     right: &Relation<'d, S>,
 ) -> Result<Relation<'d, S>, AllocError>
-    requires frame { frame right.now ≡ frame left.now }
+    requires frame { SameFrame right.now left.now }
     requires left { IsStrictlyIncreasing left.now.vars }
     requires right { IsStrictlyIncreasing right.now.vars }
     ensures ticks { IfOk result (λ r. (b : ℕ → ℕ) → IsIn left.now.domains b → (t : ℕ) → table_has S.member r b t
         ≡ paired_in pairing left.now.lo left.now.hi (table_has S.member left.now b) (table_has S.member right.now b) t) }
     ensures vars { IfOk result (λ r. r.vars ≡ vars_of_both left.now.vars right.now.vars) }
-    ensures frame { IfOk result (λ r. frame r ≡ frame left.now) }
+    ensures frame { IfOk result (λ r. SameFrame r left.now) }
 {
     match pairing {
         Pairing::And => left.join(alloc, right),

@@ -1,6 +1,6 @@
 //! The rows of formulas.
 
-ghost use Rattle.std.specs.Prelude.{◌≡◌, ◌≤◌, ◌<◌, ◌+◌, ◌*◌, ◌&&◌, ℕ, true, All, length, IfOk};
+ghost use Rattle.std.specs.Prelude.{◌≡◌, ◌<◌, ◌*◌, ◌&&◌, ℕ, true, All, length, IfOk};
 ghost use Rattle.tick_set.specs.Ticks.{within};
 ghost use Rattle.formula.specs.Tree.{formula_view};
 ghost use Rattle.formula.specs.VarSet.{set_has};
@@ -16,6 +16,7 @@ ghost use Rattle.evaluator.specs.Rows.{AreRowsOf, AreRowsWhere, reads_at_key, re
 ghost use Rattle.evaluator.specs.inner.Column.{AreRowsBeside};
 ghost use Rattle.evaluator.specs.inner.Nodes.{needs_right, pair_view};
 ghost use Rattle.evaluator.specs.inner.Seen.{IsInWindow};
+ghost use Rattle.steps.specs.Counting.{StepsAtMost};
 
 use crate::assignment::{Assignment, row_of_key};
 use crate::by_key::rows_by_key;
@@ -59,8 +60,7 @@ pub fn rows_of<'d, S: Temporal, I: Interpreter<S>, L: Ledger, M: Ledger>(
         (I.term_fits source.now w.lo w.hi) d.now w.lo w.hi (formula_view f.now) env.now }
     ensures rows { IfOk result (λ r. AreRowsOf S.member (I.interpretation source.now) d.now w.lo w.hi
         (formula_view f.now) env.now r) }
-    ensures least { reads.old ≤ reads.new }
-    ensures most { reads.new ≤ reads.old + reads_upto d.now w.lo w.hi (formula_view f.now) }
+    ensures reads { StepsAtMost reads.old reads.new (reads_upto d.now w.lo w.hi (formula_view f.now)) }
 {
     // The number of domains bounds the variables.
     let _ = d.len();
@@ -114,8 +114,7 @@ fn rows_of_pair<'d, S: Temporal, I: Interpreter<S>, L: Ledger, M: Ledger>(
         (I.term_fits source.now w.lo w.hi) d.now w.lo w.hi (pair_view pair.now) env.now }
     ensures rows { IfOk result (λ r. AreRowsOf S.member (I.interpretation source.now) d.now w.lo w.hi
         (pair_view pair.now) env.now r) }
-    ensures least { reads.old ≤ reads.new }
-    ensures most { reads.new ≤ reads.old + reads_upto d.now w.lo w.hi (pair_view pair.now) }
+    ensures reads { StepsAtMost reads.old reads.new (reads_upto d.now w.lo w.hi (pair_view pair.now)) }
 {
     let right = rows_of(alloc, source, pair.right, d, env, w, reads, probes)?;
     right.rows_stand_in_order();
@@ -141,8 +140,7 @@ fn rows_beside<'d, S: Temporal, I: Interpreter<S>, L: Ledger, M: Ledger>(
         (I.term_fits source.now w.lo w.hi) other.now.domains w.lo w.hi (formula_view f.now) env.now }
     ensures rows { IfOk result (AreRowsBeside S.member (I.interpretation source.now) other.now.domains w.lo w.hi
         (formula_view f.now) env.now other.now) }
-    ensures least { reads.old ≤ reads.new }
-    ensures most { reads.new ≤ reads.old + reads_upto other.now.domains w.lo w.hi (formula_view f.now) }
+    ensures reads { StepsAtMost reads.old reads.new (reads_upto other.now.domains w.lo w.hi (formula_view f.now)) }
 {
     fewer_objects_take_fewer_looks();
     let d = other.domains();
@@ -175,8 +173,7 @@ fn rows_of_assignment<'d, S: Temporal, I: Interpreter<S>, L: Ledger, M: Ledger>(
         (I.term_fits source.now w.lo w.hi) d.now w.lo w.hi (assignment_view a.now) env.now }
     ensures rows { IfOk result (λ r. AreRowsOf S.member (I.interpretation source.now) d.now w.lo w.hi
         (assignment_view a.now) env.now r) }
-    ensures least { reads.old ≤ reads.new }
-    ensures most { reads.new ≤ reads.old + reads_upto d.now w.lo w.hi (assignment_view a.now) }
+    ensures reads { StepsAtMost reads.old reads.new (reads_upto d.now w.lo w.hi (assignment_view a.now)) }
 {
     // The number of domains bounds the variables.
     let _ = d.len();
@@ -213,8 +210,7 @@ fn rows_at_key<'d, S: Temporal, I: Interpreter<S>, L: Ledger, M: Ledger>(
     ensures rows { IfOk result (λ r. AreRowsWhere S.member d.now w.lo w.hi (variables_of (assignment_view a.now))
         (λ b t. agrees term_vars.now key.now b
         && sat (I.interpretation source.now b) (assignment_view a.now) env.now w.hi t) r) }
-    ensures least { reads.old ≤ reads.new }
-    ensures most { reads.new ≤ reads.old + reads_at_key d.now w.lo w.hi term_vars.now (formula_view a.now.body.now) }
+    ensures reads { StepsAtMost reads.old reads.new (reads_at_key d.now w.lo w.hi term_vars.now (formula_view a.now.body.now)) }
 {
     // The number of domains bounds the variables.
     let _ = d.len();
@@ -247,8 +243,7 @@ fn rows_of_runs<'d, S: Temporal, I: Interpreter<S>, L: Ledger, M: Ledger>(
         (I.term_fits source.now w.lo w.hi) d.now w.lo w.hi a.now.depth (formula_view a.now.body.now) env.now runs.now }
     ensures rows { IfOk result (λ r. AreRowsWhere S.member d.now w.lo w.hi (variables_of (formula_view a.now.body.now))
         (run_holds (I.interpretation source.now) a.now.depth (formula_view a.now.body.now) env.now w.hi runs.now) r) }
-    ensures least { reads.old ≤ reads.new }
-    ensures most { reads.new ≤ reads.old + length runs.now * reads_upto d.now w.lo w.hi (formula_view a.now.body.now) }
+    ensures reads { StepsAtMost reads.old reads.new (length runs.now * reads_upto d.now w.lo w.hi (formula_view a.now.body.now)) }
 {
     let mut parts = VecDeque::new(alloc);
     'runs: for run in runs {
@@ -283,9 +278,7 @@ fn rows_of_section<'d, S: Temporal, I: Interpreter<S>, L: Ledger, M: Ledger>(
     ensures rows { IfOk result (λ r. AreRowsWhere S.member d.now section.window.lo section.window.hi
         (variables_of (formula_view f.now)) (λ b t. within section.span.lo section.span.hi t
         && sat (I.interpretation source.now b) (formula_view f.now) env.now section.window.hi t) r) }
-    ensures least { reads.old ≤ reads.new }
-    ensures most { reads.new ≤ reads.old
-        + reads_upto d.now section.window.lo section.window.hi (formula_view f.now) }
+    ensures reads { StepsAtMost reads.old reads.new (reads_upto d.now section.window.lo section.window.hi (formula_view f.now)) }
 {
     let w = section.seen_by(f);
     let rows = rows_of(alloc, source, f, d, env, w, reads, probes)?;

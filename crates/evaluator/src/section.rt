@@ -4,7 +4,7 @@ ghost use Rattle.std.specs.Prelude.{◌≡◌, ◌≤◌, ◌&&◌, ℕ, IfOk};
 ghost use Rattle.tick_set.specs.Ticks.{within};
 ghost use Rattle.formula.specs.Reach.{reach};
 ghost use Rattle.formula.specs.Tree.{formula_view};
-ghost use Rattle.relation.specs.Frames.{frame, frame_of};
+ghost use Rattle.relation.specs.Frames.{HasFrame, frame};
 ghost use Rattle.relation.specs.Rows.{table_has};
 ghost use Rattle.evaluator.specs.inner.Seen.{last_seen};
 
@@ -60,7 +60,7 @@ pub(crate) fn rows_at<'d, S: Temporal>(
     ensures ticks { IfOk result (λ r. (b : ℕ → ℕ) (t : ℕ) → table_has S.member r b t
         ≡ (within section.span.lo section.span.hi t && table_has S.member rows.now b t)) }
     ensures vars { IfOk result (λ r. r.vars ≡ rows.now.vars) }
-    ensures frame { IfOk result (λ r. frame r ≡ frame_of d.now section.window.lo section.window.hi) }
+    ensures frame { IfOk result (λ r. HasFrame r d.now section.window.lo section.window.hi) }
 {
     rows.rows_stand_in_order();
     // Each domain ascends.

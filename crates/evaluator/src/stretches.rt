@@ -7,6 +7,7 @@ ghost use Rattle.interpreting.specs.Names.{formula_uses_value};
 ghost use Rattle.interpreting.specs.ValueRuns.{IsRunOf, value_runs_have};
 ghost use Rattle.meaning.specs.Reads.{term_variables};
 ghost use Rattle.evaluator.specs.Stretched.{AreStretches, IsStretch};
+ghost use Rattle.steps.specs.Counting.{StepsAtMost};
 
 use crate::assignment::Assignment;
 use crate::naming::formula_names;
@@ -32,8 +33,7 @@ pub(crate) fn stretches_of<S: Temporal, I: Interpreter<S>, L: Ledger>(
     requires { I.term_fits source.now w.lo w.hi (slice_index binding.now) a.now.term.now env.now }
     ensures runs { IfOk result (λ runs. AreStretches (formula_uses_value a.now.depth (formula_view a.now.body.now))
         ((I.interpretation source.now (slice_index binding.now)).term a.now.term.now env.now) w.lo (w.hi + 1) runs.items) }
-    ensures least { reads.old ≤ reads.new }
-    ensures most { reads.new ≤ reads.old + length (term_variables a.now.term.now) }
+    ensures reads { StepsAtMost reads.old reads.new (length (term_variables a.now.term.now)) }
 {
     let runs = source.runs(alloc, a.term, binding, env, w, reads)?;
     if formula_names(a.body, a.depth) {

@@ -1,12 +1,13 @@
 //! The ticks of formulas at one binding.
 
-ghost use Rattle.std.specs.Prelude.{◌≡◌, ◌≤◌, ◌+◌, ◌&&◌, ℕ, true, slice_index, IfOk};
+ghost use Rattle.std.specs.Prelude.{◌≡◌, ◌&&◌, ℕ, true, slice_index, IfOk};
 ghost use Rattle.tick_set.specs.Ticks.{within};
 ghost use Rattle.formula_shape.specs.Shape.{Shape};
 ghost use Rattle.formula.specs.Tree.{formula_view};
 ghost use Rattle.meaning.specs.Satisfaction.{sat};
 ghost use Rattle.evaluator.specs.Assigned.{assignment_view};
 ghost use Rattle.evaluator.specs.inner.ByBinding.{AreTicksOf, CanAskHere, reads_here};
+ghost use Rattle.steps.specs.Counting.{StepsAtMost};
 
 use crate::assignment::Assignment;
 use crate::node::{Node, Pairing};
@@ -40,8 +41,7 @@ pub(crate) fn ticks_of<S: Temporal, I: Interpreter<S>, L: Ledger, M: Ledger>(
         (I.term_fits source.now w.lo w.hi (slice_index binding.now)) w.lo w.hi (formula_view f.now) env.now }
     ensures ticks { IfOk result (AreTicksOf S.member (I.interpretation source.now (slice_index binding.now))
         w.lo w.hi (formula_view f.now) env.now) }
-    ensures least { reads.old ≤ reads.new }
-    ensures most { reads.new ≤ reads.old + reads_here w.lo w.hi (formula_view f.now) }
+    ensures reads { StepsAtMost reads.old reads.new (reads_here w.lo w.hi (formula_view f.now)) }
 {
     match Node::of(f) {
         Node::Truth(holds) => {
@@ -100,9 +100,8 @@ fn ticks_of_until<S: Temporal, I: Interpreter<S>, L: Ledger, M: Ledger>(
         (Shape.Until form c (formula_view guard.now) (formula_view goal.now)) env.now }
     ensures ticks { IfOk result (AreTicksOf S.member (I.interpretation source.now (slice_index binding.now))
         w.lo w.hi (Shape.Until form c (formula_view guard.now) (formula_view goal.now)) env.now) }
-    ensures least { reads.old ≤ reads.new }
-    ensures most { reads.new ≤ reads.old + reads_here w.lo w.hi
-        (Shape.Until form c (formula_view guard.now) (formula_view goal.now)) }
+    ensures reads { StepsAtMost reads.old reads.new
+        (reads_here w.lo w.hi (Shape.Until form c (formula_view guard.now) (formula_view goal.now))) }
 {
     let goals = ticks_of(alloc, source, goal, binding, env, w, reads, probes)?;
     if goals.is_empty() {
@@ -142,8 +141,7 @@ fn ticks_of_assignment<S: Temporal, I: Interpreter<S>, L: Ledger, M: Ledger>(
         (I.term_fits source.now w.lo w.hi (slice_index binding.now)) w.lo w.hi (assignment_view a.now) env.now }
     ensures ticks { IfOk result (AreTicksOf S.member (I.interpretation source.now (slice_index binding.now))
         w.lo w.hi (assignment_view a.now) env.now) }
-    ensures least { reads.old ≤ reads.new }
-    ensures most { reads.new ≤ reads.old + reads_here w.lo w.hi (assignment_view a.now) }
+    ensures reads { StepsAtMost reads.old reads.new (reads_here w.lo w.hi (assignment_view a.now)) }
 {
     let runs = stretches_of(alloc, source, a, binding, env, w, reads)?;
     let mut parts = VecDeque::new(alloc);
@@ -180,8 +178,7 @@ fn ticks_of_section<S: Temporal, I: Interpreter<S>, L: Ledger, M: Ledger>(
         section.window.lo section.window.hi (formula_view f.now) env.now }
     ensures ticks { IfOk result (λ s. (t : ℕ) → S.member s t ≡ (within section.span.lo section.span.hi t
         && sat (I.interpretation source.now (slice_index binding.now)) (formula_view f.now) env.now section.window.hi t)) }
-    ensures least { reads.old ≤ reads.new }
-    ensures most { reads.new ≤ reads.old + reads_here section.window.lo section.window.hi (formula_view f.now) }
+    ensures reads { StepsAtMost reads.old reads.new (reads_here section.window.lo section.window.hi (formula_view f.now)) }
 {
     let w = section.seen_by(f);
     let ticks: S = ticks_of(alloc, source, f, binding, env, w, reads, probes)?;

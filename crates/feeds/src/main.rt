@@ -2,11 +2,12 @@
 //! With the words `replica NAME` it hears what one of them is told, and writes the answer of the query of this name in the end.
 #![tactic(auto)]
 
-ghost use Rattle.std.specs.Prelude.{◌≡◌, ◌<◌, map, string_bytes};
+ghost use Rattle.std.specs.Prelude.{◌<◌, map, string_bytes};
 ghost use Rattle.domino_run.specs.declared.running.TheConstants.{INPUT_LIMIT};
 ghost use Rattle.feeds_run.specs.Ends.{seen_of};
 ghost use Rattle.feeds_run.specs.Theorem.{FeedsAs};
 ghost use Rattle.feeds_run.specs.Words.{feed_words_of};
+ghost use Rattle.steps.specs.Counting.{IsBlankOf};
 
 use feeds_run::{FeedStatus, run_feeds};
 use outside::{Sink, Source, StdSink, StdSource};
@@ -59,9 +60,7 @@ fn count_reads<S: Source, K: Sink, L: Ledger>(
     reads: Blank,
     probes: Blank,
 ) -> FeedStatus
-    requires name { reads.name ≡ L.name }
-    requires parts { reads.parts ≡ L.parts }
-    requires some { 0 < reads.parts }
+    requires blank { IsBlankOf reads.name reads.parts L.name L.parts }
     requires one { 0 < probes.parts }
     ensures { FeedsAs INPUT_LIMIT (feed_words_of (map string_bytes words.now))
         (seen_of (S.faults source.old) (K.faults sink.old) (S.left source.old) (K.written sink.old))
@@ -80,9 +79,7 @@ fn count_probes<S: Source, K: Sink, L: Ledger, M: Ledger>(
     reads: Steps<L>,
     probes: Blank,
 ) -> FeedStatus
-    requires name { probes.name ≡ M.name }
-    requires parts { probes.parts ≡ M.parts }
-    requires some { 0 < probes.parts }
+    requires { IsBlankOf probes.name probes.parts M.name M.parts }
     ensures { FeedsAs INPUT_LIMIT (feed_words_of (map string_bytes words.now))
         (seen_of (S.faults source.old) (K.faults sink.old) (S.left source.old) (K.written sink.old))
         (seen_of (S.faults source.new) (K.faults sink.new) (S.left source.new) (K.written sink.new)) result }

@@ -3,3 +3,4 @@ pub mod Canonical
 pub mod Decimal
 pub mod Digits
 pub mod Laws
+pub mod Sizes

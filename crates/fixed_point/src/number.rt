@@ -3,6 +3,7 @@ ghost use Rattle.std.specs.Prelude.{◌≡◌, ◌≤◌, unsigned_abs, IfSome, 
 ghost use Rattle.std.specs.Int.{int_min, int_max};
 ghost use Rattle.fixed_point.specs.Decimal.{thousandths_of};
 ghost use Rattle.fixed_point.specs.Canonical.{fix_text};
+ghost use Rattle.fixed_point.specs.Sizes.{IsFix, IsReadable, IsSlope};
 
 use crate::number_text::FixText;
 use crate::reading::read_thousandths;
@@ -53,7 +54,7 @@ impl Fix {
     #[inline]
     pub fn raw(self) -> i64
         ensures value { result ≡ self }
-        ensures in_range { unsigned_abs self ≤ FIX_LIMIT }
+        ensures in_range { IsFix self }
     {
         self.thousandths
     }
@@ -79,7 +80,7 @@ impl Fix {
     /// the number is not within 10^12 thousandths of 0. Zeros in front are allowed, and `-0` is 0.
     pub fn read(text: &[u8]) -> Option<Fix>
         ensures value { result ≡ thousandths_of READ_LIMIT text.now }
-        ensures in_range { IfSome result (λ number. unsigned_abs number ≤ READ_LIMIT) }
+        ensures in_range { IfSome result (λ number. IsReadable number) }
     {
         let thousandths = read_thousandths(text, READ_LIMIT)?;
         Some(Fix { thousandths })
@@ -141,7 +142,7 @@ impl Slope {
     #[inline]
     pub fn raw(self) -> i64
         ensures value { result ≡ self }
-        ensures in_range { unsigned_abs self ≤ SLOPE_LIMIT }
+        ensures in_range { IsSlope self }
     {
         self.thousandths as i64
     }
@@ -150,7 +151,7 @@ impl Slope {
     /// form, or the slope is not within 10^6 thousandths per tick of 0.
     pub fn read(text: &[u8]) -> Option<Slope>
         ensures value { result ≡ thousandths_of SLOPE_LIMIT text.now }
-        ensures in_range { IfSome result (λ slope. unsigned_abs slope ≤ SLOPE_LIMIT) }
+        ensures in_range { IfSome result (λ slope. IsSlope slope) }
     {
         let thousandths = read_thousandths(text, SLOPE_LIMIT)? as i32;
         Some(Slope { thousandths })

@@ -5,6 +5,7 @@ ghost use Rattle.std.specs.Ordering.{nat_cmp};
 ghost use Rattle.std.specs.Str.{bytes_eq};
 ghost use Rattle.std.specs.Cmp.{partial_equiv_from_equiv};
 ghost use Rattle.std.specs.Cmp.Lexicographic.{slice_cmp, nat_list_cmp_total, nat_list_eq_equiv, texts_po, texts_ties};
+ghost use Rattle.formula_shape.specs.Sizes.{FitInQuery, OneMoreFits};
 
 use formula_shape::OBJECT_LIMIT;
 use std::cmp::Ordering;
@@ -53,7 +54,7 @@ impl Binding {
 
     /// Adds the object of the next variable.
     pub fn push(&mut self, id: u32)
-        requires { length self.old < OBJECT_LIMIT }
+        requires { OneMoreFits self.old }
         ensures { self.new ≡ self.old ++ id ∷ [] }
     {
         self.ids[self.len as usize] = id;
@@ -64,7 +65,7 @@ impl Binding {
     #[inline]
     pub fn ids(&self) -> &[u32]
         ensures value { result.now ≡ self.now }
-        ensures few { length self.now ≤ OBJECT_LIMIT }
+        ensures few { FitInQuery self.now }
     {
         &self.ids[..self.len as usize]
     }

@@ -1,6 +1,7 @@
 -- The sizes of a formula, and what its atoms and assignments have together, each by the fold.
-use Rattle.std.specs.Prelude.{ℕ, ◌+◌, max, Bool, true, false, ◌||◌, List, [], ◌++◌}
+use Rattle.std.specs.Prelude.{ℕ, ◌+◌, max, Bool, true, false, ◌||◌, List, [], ◌++◌, ◌≤◌, length, ◌<◌}
 use Rattle.formula_shape.specs.Shape.{Shape, fold_shape}
+use Rattle.formula_shape.specs.declared.limits.TheConstants.{FACTOR_LIMIT, OBJECT_LIMIT}
 
 -- the operators, assignments and atoms, TRUE and FALSE among them
 abbrev pub nodes : {A B : Type 0} → Shape A B → ℕ
@@ -78,3 +79,15 @@ gathered of_atom of_bound = fold_shape (record {
   binary = λ xs ys. xs ++ ys;
   assignment = λ bound xs. of_bound bound ++ xs;
 })
+
+-- no more than a query has variables
+abbrev pub FitInQuery : {A : Type 0} → List A → Type 0
+FitInQuery xs = length xs ≤ OBJECT_LIMIT
+
+-- fewer than a query has variables
+abbrev pub OneMoreFits : {A : Type 0} → List A → Type 0
+OneMoreFits xs = length xs < OBJECT_LIMIT
+
+-- a term may have so many factors
+abbrev pub AreFewFactors : {A : Type 0} → List A → Type 0
+AreFewFactors factors = length factors ≤ FACTOR_LIMIT

@@ -1,5 +1,5 @@
 -- What names, numbers, texts and symbols are made of, and which token begins at the front of some bytes.
-use Rattle.std.specs.Prelude.{ℕ, ◌+◌, ◌==◌, ◌||◌, Bool, List, [], ◌∷◌, take, drop, Option, Some, None, option_map, position, if◌then◌else◌}
+use Rattle.std.specs.Prelude.{ℕ, ◌+◌, ◌==◌, ◌||◌, Bool, List, [], ◌∷◌, take, drop, Option, Some, None, option_map, position, if◌then◌else◌, ◌≤◌}
 use Rattle.std.specs.List.{prefix_len}
 use Rattle.std.specs.Option.{option_map_or}
 use Rattle.std.specs.Char.{is_ascii_digit, is_ascii_alphabetic, is_ascii_alphanumeric}
@@ -7,6 +7,7 @@ use Rattle.case_table.specs.Rows.{code_of}
 use Rattle.case_table.specs.Language.{reserved_words, symbols}
 use Rattle.ftl_lexer.specs.declared.kinds.Kind.{Kind}
 use Rattle.ftl_lexer.specs.declared.kinds.Kind.TheVariants.{Name, Number, Text, Sym, Key}
+use Rattle.ftl_lexer.specs.declared.buffer.TheConstants.{LEXER_LIMIT}
 
 -- a space or a tab, which separate tokens
 abbrev pub is_blank : ℕ → Bool
@@ -70,3 +71,7 @@ token_at (b ∷ bytes) =
     else (if is_ascii_digit b then Some (Number, number_len (b ∷ bytes))
     else (if is_quote b then option_map (λ n. (Text, n)) (text_len bytes)
     else symbol_at b bytes))
+
+-- the lexer takes so many bytes
+abbrev pub FitsLexer : ℕ → Type 0
+FitsLexer n = n ≤ LEXER_LIMIT

@@ -6,6 +6,7 @@ ghost use Rattle.ftl_lexer.specs.Cut.{HasForm};
 ghost use Rattle.ftl_lexer.specs.Faults.{ExplainsBytes, StandsAfter};
 ghost use Rattle.ftl_lexer.specs.inner.Room.{room_of, HoldLine, BuffersStandAfter};
 ghost use Rattle.ftl_lexer.specs.declared.fault.LexFault.TheVariants.{NoMemory};
+ghost use Rattle.ftl_lexer.specs.Forms.{FitsLexer};
 
 use crate::walk::{Step, bad_token, next};
 use crate::{Kind, LexFault, Token};
@@ -18,7 +19,7 @@ pub const LEXER_LIMIT: usize = 16_384;
 // Adds the tokens of a line, up to the first byte at which no token begins, and answers that byte.
 fn fill(tokens: &mut Vec<Token>, line: &[u8]) -> Option<usize>
     requires empty { tokens.old.items ≡ [] }
-    requires short { length line.now ≤ LEXER_LIMIT }
+    requires short { FitsLexer (length line.now) }
     requires room { length line.now ≤ vec_capacity tokens.old }
     ensures bad { result ≡ bad_place line.now }
     ensures tokens { result ≡ None → tokens.new.items ≡ tokens_of line.now }
@@ -57,7 +58,7 @@ fn make_room(line: &mut Vec<u8>, tokens: &mut Vec<Token>, len: usize) -> Result<
 
 // Reads a line and its tokens in place of those before. Wants no memory where both have room for it.
 fn read_into(held: &mut Vec<u8>, tokens: &mut Vec<Token>, line: &[u8]) -> Result<(), LexFault>
-    requires { length line.now ≤ LEXER_LIMIT }
+    requires { FitsLexer (length line.now) }
     ensures ok { OnOk result (HoldLine line.now held.new tokens.new) }
     ensures cause { IfErr result (ExplainsBytes line.now) }
     ensures stands { IfErr result (BuffersStandAfter held.old tokens.old held.new tokens.new) }
@@ -129,7 +130,7 @@ impl Tokens {
     /// first byte at which no token begins, also where there is no memory; it then holds the empty line.
     /// After `NoMemory` it holds what it held, which the line is longer than.
     pub fn read(&mut self, line: &[u8]) -> Result<(), LexFault>
-        requires { length line.now ≤ LEXER_LIMIT }
+        requires { FitsLexer (length line.now) }
         ensures ok { OnOk result ((self.new ≡ line.now) × (bad_place line.now ≡ None)) }
         ensures cause { IfErr result (ExplainsBytes line.now) }
         ensures stands { IfErr result (StandsAfter self.old self.new) }
@@ -145,7 +146,7 @@ impl Tokens {
     pub fn len(&self) -> usize
         ensures value { result ≡ length (tokens_of self.now) }
         ensures read { bad_place self.now ≡ None }
-        ensures short { length self.now ≤ LEXER_LIMIT }
+        ensures short { FitsLexer (length self.now) }
     {
         // Reading a field brings in the invariant, which the clauses follow from.
         let _line = &self.line;

@@ -1,8 +1,8 @@
 //! Numbers by their places, and words.
 
-ghost use Rattle.std.specs.Prelude.{◌≡◌, ◌≤◌, ◌≤ℤ◌, pos, neg_ℤ, unsigned_abs, [], IfSome};
-ghost use Rattle.fixed_point.specs.declared.number.TheConstants.{READ_LIMIT};
+ghost use Rattle.std.specs.Prelude.{◌≡◌, ◌≤ℤ◌, pos, neg_ℤ, [], IfSome};
 ghost use Rattle.fixed_point.specs.Decimal.{thousandths_of};
+ghost use Rattle.fixed_point.specs.Sizes.{IsReadable};
 ghost use Rattle.geometry.specs.declared.limits.TheConstants.{RADIUS_LIMIT};
 ghost use Rattle.ftl_parser.specs.Number.{whole_of, up_to, literal, radius_of, ticks, times, is_number_fit, Ticks, Times, Literal, Radius};
 ghost use Rattle.ftl_parser.specs.Words.{is_short, short_word};
@@ -65,7 +65,7 @@ pub(crate) fn times(text: &[u8]) -> u32
 // A literal; 0 where it is none in its range.
 pub(crate) fn literal(text: &[u8]) -> Fix
     ensures value { result ≡ literal text.now }
-    ensures in_range { unsigned_abs result ≤ READ_LIMIT }
+    ensures in_range { IsReadable result }
 {
     match Fix::read(text) {
         Some(number) => number,

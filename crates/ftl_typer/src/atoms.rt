@@ -3,6 +3,7 @@ ghost use Rattle.std.specs.Prelude.{◌≡◌, ◌+◌, ◌<◌, ◌≤◌, leng
 ghost use Rattle.ftl_parser.specs.Order.{atom_names, atom_terms, term_names};
 ghost use Rattle.ftl_parser.specs.Sizes.{atom_factors};
 ghost use Rattle.formula_shape.specs.declared.limits.TheConstants.{FACTOR_LIMIT};
+ghost use Rattle.formula_shape.specs.Sizes.{AreFewFactors};
 ghost use Rattle.formula.specs.Kinds.{is_equality, may_compare};
 ghost use Rattle.ftl_typer.specs.Faults.{atom_faults, compare_faults, points_faults};
 ghost use Rattle.ftl_typer.specs.Context.{scope_in};
@@ -65,8 +66,8 @@ fn note_compare(
 ) -> usize
     requires names { at + length (term_names left.now) + length (term_names right.now) ≤ usize.MAX }
     requires terms { nth < usize.MAX }
-    requires few_left { length left.now.factors ≤ FACTOR_LIMIT }
-    requires few_right { length right.now.factors ≤ FACTOR_LIMIT }
+    requires few_left { AreFewFactors left.now.factors }
+    requires few_right { AreFewFactors right.now.factors }
     ensures found { found.new ≡ found_after found.old (compare_faults (scope_in scope.now) at nth left.now op right.now) }
     ensures behind { result ≡ at + length (term_names left.now) + length (term_names right.now) }
 {

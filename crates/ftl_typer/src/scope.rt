@@ -7,6 +7,7 @@ ghost use Rattle.std.specs.Option.{option_copied, option_map};
 ghost use Rattle.std.specs.Str.{bytes_eq};
 ghost use Rattle.formula_shape.specs.declared.limits.TheConstants.{NESTING_LIMIT};
 ghost use Rattle.formula_shape.specs.declared.limits.TheConstants.{OBJECT_LIMIT};
+ghost use Rattle.formula_shape.specs.Sizes.{FitInQuery};
 ghost use Rattle.ftl_typer.specs.Context.{scope_in};
 ghost use Rattle.ftl_typer.specs.Scope.{attribute_position, class_named, has_no_parts, is_name_taken, is_no_object, is_no_point, is_point, is_unknown, is_value, is_variable, lacks_attribute, named_attribute_kind, scope_inside, scope_of, value_named, value_of};
 
@@ -48,7 +49,7 @@ impl<'a> Model for Scope<'a> {
 impl<'a> Scope<'a> {
     /// Around the formula of a query, where no value variable is in scope.
     pub fn new(schema: &'a Schema, regions: &'a Regions, from: &'a [FromPart]) -> Scope<'a>
-        requires { length from.now ≤ OBJECT_LIMIT }
+        requires { FitInQuery from.now }
         ensures { scope_in result ≡ scope_of schema.now regions.now from.now }
     {
         Scope {

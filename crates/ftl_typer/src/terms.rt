@@ -5,7 +5,7 @@ ghost use Rattle.std.specs.Prelude.{◌≡◌, ◌+◌, ◌*◌, ◌^◌, ◌<�
 ghost use Rattle.std.specs.Option.{option_map_or};
 ghost use Rattle.formula.specs.Bounds.{factor_bound, sub_bound, term_bound, unit_bound};
 ghost use Rattle.ftl_parser.specs.Order.{factors_list, names_alone, term_names};
-ghost use Rattle.formula_shape.specs.declared.limits.TheConstants.{FACTOR_LIMIT};
+ghost use Rattle.formula_shape.specs.Sizes.{AreFewFactors};
 ghost use Rattle.ftl_parser.specs.declared.tree.Unit.TheVariants as units;
 ghost use Rattle.meaning.specs.Value.{attribute_bound};
 ghost use Rattle.ftl_typer.specs.Faults.{factors_faults, term_faults};
@@ -162,7 +162,7 @@ fn bound_of_factor(scope: &Scope, factor: &Signed) -> u128
 
 /// The bound of a term, in thousandths: the sum of the bounds of its factors.
 fn bound_of_term(scope: &Scope, term: &Term) -> u128
-    requires { length term.now.factors ≤ FACTOR_LIMIT }
+    requires { AreFewFactors term.now.factors }
     ensures { result ≡ term_bound (resolved_term (scope_in scope.now) term.now) }
 {
     let mut sum: u128 = 0;
@@ -174,7 +174,7 @@ fn bound_of_term(scope: &Scope, term: &Term) -> u128
 
 /// Whether the bound of a term passes 10^18.
 fn is_past_range(scope: &Scope, term: &Term) -> bool
-    requires { length term.now.factors ≤ FACTOR_LIMIT }
+    requires { AreFewFactors term.now.factors }
     ensures { result ≡ is_past_range (scope_in scope.now) term.now }
 {
     bound_of_term(scope, term) > u128::from(FIX_LIMIT)
@@ -192,7 +192,7 @@ fn bound_in_range(bound: u128) -> u64
 
 /// What an assignment of a term to a name binds.
 pub fn assigned(scope: &Scope, name: &Word, term: &Term) -> Assigned
-    requires { length term.now.factors ≤ FACTOR_LIMIT }
+    requires { AreFewFactors term.now.factors }
     ensures { result ≡ assigned (scope_in scope.now) name.now term.now }
 {
     Assigned {
@@ -222,7 +222,7 @@ fn note_factors(scope: &Scope, factors: &[Signed], at: usize, found: &mut Found)
 
 pub fn note_term(scope: &Scope, term: &Term, at: usize, nth: usize, found: &mut Found) -> usize
     requires fits { at + length (term_names term.now) ≤ usize.MAX }
-    requires few { length term.now.factors ≤ FACTOR_LIMIT }
+    requires few { AreFewFactors term.now.factors }
     ensures found { found.new ≡ found_after found.old (term_faults (scope_in scope.now) at nth term.now) }
     ensures behind { result ≡ at + length (term_names term.now) }
 {

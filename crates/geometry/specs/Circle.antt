@@ -1,8 +1,9 @@
 -- Points that fit a circle of radius r. Each rule is that of the smallest circle round the points; of four points each three must fit (Helly's theorem in the plane).
-use Rattle.std.specs.Prelude.{ℤ, pos, ◌+ℤ◌, ◌-ℤ◌, ◌*ℤ◌, Bool, true, false, ◌&&◌, List, [], ◌∷◌, int_le, if◌then◌else◌}
+use Rattle.std.specs.Prelude.{ℤ, pos, ◌+ℤ◌, ◌-ℤ◌, ◌*ℤ◌, Bool, true, false, ◌&&◌, List, [], ◌∷◌, int_le, if◌then◌else◌, ◌≤ℤ◌}
 use Rattle.std.specs.Int.{int_max}
 use Rattle.fixed_point.specs.declared.number.Point.{Point}
 use Rattle.geometry.specs.Plane.{square, squared_distance, cross}
+use Rattle.geometry.specs.declared.limits.TheConstants.{RADIUS_LIMIT}
 
 -- the square of the diameter
 abbrev pub squared_width : ℤ → ℤ
@@ -35,3 +36,8 @@ fits r (p ∷ q ∷ []) = two_fit r p q
 fits r (p ∷ q ∷ s ∷ []) = three_fit r p q s
 fits r (p ∷ q ∷ s ∷ u ∷ []) = three_fit r p q s && three_fit r p q u && three_fit r p s u && three_fit r q s u
 fits r (_ ∷ _ ∷ _ ∷ _ ∷ _ ∷ _) = false
+
+-- a circle may have the radius
+pub record IsRadius (r : ℤ) : Type 0 where
+  pub least : pos 0 ≤ℤ r
+  pub most : r ≤ℤ pos RADIUS_LIMIT

@@ -1,6 +1,7 @@
 //! Distances and sides of points, computed.
 ghost use Rattle.std.specs.Prelude.{◌≡◌, ◌*◌, ◌^◌, ◌≤◌, ◌-ℤ◌, ◌*ℤ◌, unsigned_abs};
 ghost use Rattle.geometry.specs.Plane.{cross, squared_distance};
+ghost use Rattle.fixed_point.specs.Sizes.{IsFixDifference};
 
 use exact::{minus, plus, times};
 use fixed_point::{FIX_LIMIT, Fix, Point};
@@ -35,7 +36,7 @@ pub fn cross(p: Point, q: Point, r: Point) -> i128
 #[inline]
 pub fn apart(a: Fix, b: Fix) -> i64
     ensures value { result ≡ a -ℤ b }
-    ensures size { unsigned_abs result ≤ 2 * FIX_LIMIT }
+    ensures size { IsFixDifference result }
 {
     a.raw() - b.raw()
 }
@@ -43,8 +44,8 @@ pub fn apart(a: Fix, b: Fix) -> i64
 // The product of two differences of coordinates.
 #[inline]
 fn product(a: i64, b: i64) -> i128
-    requires a_size { unsigned_abs a ≤ 2 * FIX_LIMIT }
-    requires b_size { unsigned_abs b ≤ 2 * FIX_LIMIT }
+    requires a_size { IsFixDifference a }
+    requires b_size { IsFixDifference b }
     ensures value { result ≡ a *ℤ b }
     ensures size { unsigned_abs result ≤ 4 * FIX_LIMIT ^ 2 }
 {

@@ -1,6 +1,6 @@
 //! One user: the session that answers this user's lines.
 ghost use Rattle.std.specs.Prelude.{◌≡◌, ◌<◌, true, None, Some, IfOk, OnOk, length, slice_get};
-ghost use Rattle.command_text.specs.Text.{text_of};
+ghost use Rattle.command_text.specs.Text.{IsLineOf};
 ghost use Rattle.command_text.specs.Tree.{command_view};
 ghost use Rattle.line_meaning.specs.Judging.{fault_of};
 ghost use Rattle.feeds_meaning.specs.declared.limits.TheConstants.{QUERY_LINES_LIMIT};
@@ -134,7 +134,7 @@ pub(crate) fn answer_other<L: Ledger, M: Ledger>(
 ) -> Result<(), AllocError>
     requires given { MayBeGiven (command_view command.now) }
     requires shared { is_data (command_view command.now) ≡ true }
-    requires line { line.now ≡ text_of (command_view command.now) }
+    requires line { IsLineOf line.now (command_view command.now) }
     requires accepted { fault_of session.old (command_view command.now) ≡ None }
     ensures { OnOk result (IsOther (command_view command.now) session.old session.new reply.new.items) }
 {

@@ -10,6 +10,7 @@ ghost use Rattle.meaning.specs.Reads.{atom_variables, term_variables};
 ghost use Rattle.meaning.specs.Satisfaction.{Interpretation};
 ghost use Rattle.interpreting.specs.Names.{AgreeOn, atom_uses_value, term_uses_value};
 ghost use Rattle.interpreting.specs.ValueRuns.{AreValueRuns};
+ghost use Rattle.steps.specs.Counting.{StepsAtMost};
 
 use crate::value_run::ValueRun;
 use formula::{Binding, Env, RAtom, RTerm};
@@ -53,8 +54,7 @@ pub trait Interpreter<S: Temporal> {
         requires { atom_fits self.now w.lo w.hi (slice_index binding.now) atom.now env.now }
         ensures ticks { IfOk result (λ s. (t : ℕ) → S.member s t ≡ (within w.lo w.hi t
             && (interpretation self.now (slice_index binding.now)).atom atom.now env.now t)) }
-        ensures least { reads.old ≤ reads.new }
-        ensures most { reads.new ≤ reads.old + length (atom_variables atom.now) };
+        ensures reads { StepsAtMost reads.old reads.new (length (atom_variables atom.now)) };
 
     /// The runs of the term's value in the window; a tick at which it has none is in no run.
     fn runs<L: Ledger>(
@@ -69,8 +69,7 @@ pub trait Interpreter<S: Temporal> {
         requires { term_fits self.now w.lo w.hi (slice_index binding.now) term.now env.now }
         ensures runs { IfOk result (λ runs. AreValueRuns
             ((interpretation self.now (slice_index binding.now)).term term.now env.now) w.lo (w.hi + 1) runs.items) }
-        ensures least { reads.old ≤ reads.new }
-        ensures most { reads.new ≤ reads.old + length (term_variables term.now) };
+        ensures reads { StepsAtMost reads.old reads.new (length (term_variables term.now)) };
 
     /// The ticks of the window at which the object isn't there: few objects have any.
     fn absence<L: Ledger>(
@@ -83,8 +82,7 @@ pub trait Interpreter<S: Temporal> {
         requires { object_fits self.now w.lo w.hi id }
         ensures ticks { IfOk result (λ s. (t : ℕ) → S.member s t ≡ (within w.lo w.hi t
             && not (present self.now id t))) }
-        ensures least { reads.old ≤ reads.new }
-        ensures most { reads.new ≤ reads.old + 1 };
+        ensures reads { StepsAtMost reads.old reads.new 1 };
 
     /// An atom depends on its own variables alone.
     ghost atom_sees: { (x : Self) (b c : ℕ → ℕ) (a : RAtom) → ((v : ℕ) → atom_has v a ≡ true → b v ≡ c v)

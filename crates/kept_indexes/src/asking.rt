@@ -1,8 +1,8 @@
 //! What an index is asked for, and what it answers.
 ghost use Rattle.std.specs.Prelude.{◌≡◌, ◌≤◌, ◌+◌, ◌<◌, ◌++◌, true, false, Some, length, IfErr, MatchResult, OnErr, OnOk};
 ghost use Rattle.std.specs.List.{list_all};
-ghost use Rattle.tick_set.specs.declared.spans.TheConstants.{LAST_TICK};
-ghost use Rattle.object_store.specs.Contents.{catalog_of, object_name};
+ghost use Rattle.tick_set.specs.Ticks.{IsTick};
+ghost use Rattle.object_store.specs.Contents.{HasNoWriteAfter, IsObjectId, catalog_of, object_name};
 ghost use Rattle.meaning.specs.Answer.{answer};
 ghost use Rattle.plane.specs.Boxes.{last_covered};
 ghost use Rattle.plane.specs.Rows.{range_query, IsCovered};
@@ -21,6 +21,7 @@ ghost use Rattle.database.specs.Telling.{IsRefused, RefusesOrWrites};
 ghost use Rattle.plane_index.specs.Rows.{told_range_rows};
 ghost use Rattle.kept_indexes.specs.Kept.{AreIndexes, BeginAtLastWrites, IsRight, entries, entry_of};
 ghost use Rattle.kept_indexes.specs.Making.{range_command, holding, HasRoomForOk, IsPlace};
+ghost use Rattle.steps.specs.Counting.{StepsAtMost};
 
 use crate::column::column_of;
 use crate::indexes::{Indexes, Kept, make_room};
@@ -49,8 +50,8 @@ pub struct Range<'a> {
 
 /// The place of the index that is asked, or why it isn't.
 fn place_asked(kept: &[Kept], database: &Database, range: &Range) -> Result<usize, Refusal>
-    requires now { database.now.clock ≤ LAST_TICK }
-    requires span { range.now.span ≤ LAST_TICK }
+    requires now { IsTick database.now.clock }
+    requires span { IsTick range.now.span }
     ensures { MatchResult result (IsPlace kept.now database.now range.now)
         (λ refusal. range_refusal database.now.clock range.now.span
         (index_named (catalog_of database.now.store) (entries kept.now) range.now.class.now range.now.attr.now) ≡ Some refusal) }
@@ -84,15 +85,14 @@ impl Indexes {
     ) -> Result<(), CommandFault>
         requires indexes { AreIndexes journal.now database.now.store self.old }
         requires keeps { Keeps journal.now database.now }
-        requires span { range.now.span ≤ LAST_TICK }
+        requires span { IsTick range.now.span }
         ensures indexes { AreIndexes journal.now database.now.store self.new }
         ensures entries { OnOk result (entries self.new ≡ (all_after (holding journal.now self.old) (range_command range.now)).indexes) }
         ensures err { OnErr result (entries self.new ≡ entries self.old) }
         ensures answered { RefusesOrWrites (index_fault (entries self.old) (world journal.now) (clock journal.now) (range_command range.now))
             (answer_lines (world journal.now) (clock journal.now) (range_command range.now)) out.old.items out.new.items result }
         ensures begins { Begins out.old.items out.new.items }
-        ensures least { reads.old ≤ reads.new }
-        ensures most { reads.new ≤ reads.old + most_looks (holding journal.now self.old) (range_command range.now) }
+        ensures reads { StepsAtMost reads.old reads.new (most_looks (holding journal.now self.old) (range_command range.now)) }
         ensures room { OnOk result (HasRoomForOk out.new) }
         ensures free { IfErr result (λ fault. IsRefused fault → reads.new ≡ reads.old) }
     {
@@ -136,8 +136,8 @@ fn answer<L: Ledger>(
         (clock journal.now) (clock journal.now + range.now.span))) }
     ensures begins { Begins out.old.items out.new.items }
     ensures room { OnOk result (HasRoomForOk out.new) }
-    ensures least { reads.old ≤ reads.new }
-    ensures most { reads.new ≤ reads.old + looks_in_range journal.now range.now.span range.now.least range.now.greatest (entry_of kept.old) }
+    ensures reads { StepsAtMost reads.old reads.new
+        (looks_in_range journal.now range.now.span range.now.least range.now.greatest (entry_of kept.old)) }
 {
     let store = database.store();
     let window = window_of(&kept.index, store, database.clock(), range.span);
@@ -154,7 +154,7 @@ fn answer<L: Ledger>(
 fn window_of(index: &PlaneIndex, store: &Store, now: u32, span: u32) -> Window
     requires begun { index.now.grid.from ≤ now }
     requires fits { now + span ≤ last_covered index.now.grid }
-    requires written { store.now.last_tick ≤ now }
+    requires written { HasNoWriteAfter store.now now }
     ensures ticks { (result.lo ≡ now) × (result.hi ≡ now + span) }
     ensures covered { IsCovered (recorded_by store.now) index.now.grid now (now + span) }
 {
@@ -191,7 +191,7 @@ fn push_rows(
 
 /// The name of an object.
 fn name_of(store: &Store, id: ObjectId) -> &Word
-    requires { id < length store.now.objects }
+    requires { IsObjectId store.now id }
     ensures { result.now ≡ object_name store.now.objects id }
 {
     store.name_of(id).unwrap()

@@ -1,6 +1,6 @@
 //! The indexes of a session.
-ghost use Rattle.std.specs.Prelude.{◌≡◌, ◌≤◌, ℕ, List, pos, ◌<ℤ◌, [], IfErr, IfOk, OnErr, OnOk, None};
-ghost use Rattle.tick_set.specs.declared.spans.TheConstants.{LAST_TICK};
+ghost use Rattle.std.specs.Prelude.{◌≡◌, ℕ, List, pos, ◌<ℤ◌, [], IfErr, IfOk, OnErr, OnOk, None};
+ghost use Rattle.tick_set.specs.Ticks.{IsTick};
 ghost use Rattle.command_text.specs.Journal.{Accepted, clock};
 ghost use Rattle.command_text.specs.Tree as Tree;
 ghost use Rattle.line_meaning.specs.Indexed.{index_fault, indexes_after};
@@ -77,7 +77,7 @@ impl Indexes {
         out: &mut Vec<u8>,
     ) -> Result<(), CommandFault>
         requires wide { pos 0 <ℤ width }
-        requires in_range { database.now.clock ≤ LAST_TICK }
+        requires in_range { IsTick database.now.clock }
         ensures made { IfOk result (λ _. index_fault (entries self.old) (world_of_database database.now) (clock_of database.now)
             (Tree.Index class.now attr.now width) ≡ None) }
         ensures entries { OnOk result ((count : ℕ) → entries self.new

@@ -1,7 +1,8 @@
 //! Why an index isn't made, or isn't asked.
-ghost use Rattle.std.specs.Prelude.{◌≡◌, ◌≤◌, Some, All, length};
+ghost use Rattle.std.specs.Prelude.{◌≡◌, Some, All, length};
 ghost use Rattle.std.specs.List.{position};
 ghost use Rattle.tick_set.specs.declared.spans.TheConstants.{LAST_TICK};
+ghost use Rattle.tick_set.specs.Ticks.{IsTick};
 ghost use Rattle.object_store.specs.Contents.{catalog_of};
 ghost use Rattle.line_meaning.specs.Indexed.{index_refusal, is_index_crowded, is_index_past, is_lasting, is_of, is_past_index};
 ghost use Rattle.kept_indexes.specs.Kept.{entries, entry_of};
@@ -47,7 +48,7 @@ fn is_lasting(kept: &[Kept], now: u32, at: Column) -> bool
 
 /// Whether an index that is made at tick `now` would end past the last tick.
 fn is_past(now: u32) -> bool
-    requires { now ≤ LAST_TICK }
+    requires { IsTick now }
     ensures { result ≡ is_index_past now }
 {
     now + SLICES * SLICE_TICKS - 1 > LAST_TICK
@@ -62,7 +63,7 @@ fn is_crowded(kept: &[Kept], at: Column) -> bool
 
 /// Why no index of an attribute is made.
 pub(crate) fn index_refusal(kept: &[Kept], database: &Database, at: Column) -> Option<Refusal>
-    requires { database.now.clock ≤ LAST_TICK }
+    requires { IsTick database.now.clock }
     ensures { result ≡ index_refusal (catalog_of database.now.store) (entries kept.now) database.now.clock (Some at) }
 {
     let now = database.clock();
@@ -81,8 +82,8 @@ pub(crate) fn index_refusal(kept: &[Kept], database: &Database, at: Column) -> O
 
 /// Whether the last tick of a span is past those of an index.
 pub(crate) fn is_past_index(now: u32, span: u32, kept: &Kept) -> bool
-    requires now { now ≤ LAST_TICK }
-    requires span { span ≤ LAST_TICK }
+    requires now { IsTick now }
+    requires span { IsTick span }
     ensures { result ≡ is_past_index now span (entry_of kept.now) }
 {
     now + span > kept.index.grid().last()

@@ -1,7 +1,8 @@
 -- The number of a binding: the places of its objects in the lists of their classes' objects, in the mixed radix
 -- of the classes' capacities. The last variable counts in ones.
-use Rattle.std.specs.Prelude.{ℕ, ◌+◌, ◌*◌, ◌/◌, ◌%◌, ◌<◌, ◌==◌, ⊤, Bool, false, ◌&&◌, ◌||◌, nat_lt, List, [], ◌∷◌}
+use Rattle.std.specs.Prelude.{ℕ, ◌+◌, ◌*◌, ◌/◌, ◌%◌, ◌<◌, ◌==◌, ⊤, Bool, false, ◌&&◌, ◌||◌, nat_lt, List, [], ◌∷◌, ◌≤◌}
 use Rattle.kept_rows.specs.declared.binding.Variable.{Variable}
+use Rattle.kept_rows.specs.declared.binding.TheConstants.{BINDING_LIMIT}
 
 -- how many numbers there are
 abbrev pub size_of : List Variable → ℕ
@@ -35,3 +36,7 @@ counts (v ∷ vs) number = nat_lt (number / size_of vs) v.count && counts vs (nu
 abbrev pub holds_written : List Variable → ℕ → Bool
 holds_written [] number = false
 holds_written (v ∷ vs) number = (number / size_of vs == v.own) || holds_written vs (number % size_of vs)
+
+-- so many bindings have numbers
+abbrev pub IsBindingCount : ℕ → Type 0
+IsBindingCount n = n ≤ BINDING_LIMIT

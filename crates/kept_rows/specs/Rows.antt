@@ -28,3 +28,7 @@ is_made pages number = is_whole (page_of pages number)
 -- there are pages for the numbers below the size
 abbrev pub HasRoom : {S : Type 0} → List (List S) → ℕ → Type 0
 HasRoom pages size = size ≤ length pages * 16
+
+-- no set of a page has a tick
+abbrev pub IsBlankPage : {S : Type 0} → (S → ℕ → Bool) → List S → Type 0
+IsBlankPage member page = (i t : ℕ) → page_has member page i t ≡ false

@@ -1,7 +1,8 @@
 //! Changes of rows, each with the memory that it needs to be made.
 ghost use Rattle.std.specs.Prelude.{◌≡◌, ◌<◌, ◌≤◌, ◌+◌, ◌/◌, ◌==◌, ◌&&◌, ◌||◌, ◌∷◌, ◌++◌, ℕ, [], true, false, All, nat_le, length, map, if◌then◌else◌, IsTrue, ◌↔◌, IfOk, IfSome, IfNone, OnOk, OnErr};
 ghost use Rattle.kept_rows.specs.Changes.{IsOtherFrom, IsSameFrom};
-ghost use Rattle.kept_rows.specs.Rows.{is_made, is_whole, page_has, row_has};
+ghost use Rattle.kept_rows.specs.Rows.{IsBlankPage, is_made, is_whole, row_has};
+ghost use Rattle.exact.specs.Lists.{SameLength};
 
 use crate::page::Page;
 use crate::rows::KeptRows;
@@ -106,7 +107,7 @@ impl<S: Turning> Changes<S> {
     /// Makes the changes. It takes no memory and can't fail.
     pub fn commit(self, kept: &mut KeptRows<S>)
         requires { AreReady S.member kept.old self }
-        ensures len { length kept.new ≡ length kept.old }
+        ensures len { SameLength kept.new kept.old }
         ensures rows { (c t : ℕ) → row_has S.member kept.new c t
             ≡ rows_after S.member self (row_has S.member kept.old) c t }
     {
@@ -165,7 +166,7 @@ pub(crate) fn spare_page<S: TickSet>(
     number: u32,
 ) -> Result<Page<S>, AllocError>
     ensures page { IfOk result (λ spare. (is_made kept.now number || is_whole spare) ≡ true) }
-    ensures blank { IfOk result (λ spare. (i t : ℕ) → page_has S.member spare i t ≡ false) }
+    ensures blank { IfOk result (λ spare. IsBlankPage S.member spare) }
 {
     if kept.has_page(number) {
         return Ok(Page::none(alloc));

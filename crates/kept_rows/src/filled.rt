@@ -1,6 +1,7 @@
 //! Which numbers may have a row.
-ghost use Rattle.std.specs.Prelude.{◌≡◌, ◌<◌, ◌≤◌, ◌^◌, ◌==◌, ◌/◌, ℕ, Bool, true, false, not, length, slice_index_or, if◌then◌else◌};
+ghost use Rattle.std.specs.Prelude.{◌≡◌, ◌<◌, ◌≤◌, ◌^◌, ◌==◌, ◌/◌, ℕ, Bool, true, false, not, slice_index_or, if◌then◌else◌};
 ghost use Rattle.kept_rows.specs.Filled.{AreFilled, HaveNoneIn};
+ghost use Rattle.exact.specs.Lists.{SameLength};
 
 use std::alloc::{AllocError, Global};
 
@@ -62,7 +63,7 @@ fn is_unset(flags: &[bool], at: usize) -> bool
 
 // Sets a place, if it is there.
 fn set_at(flags: &mut [bool], at: usize)
-    ensures len { length flags.new ≡ length flags.old }
+    ensures len { SameLength flags.new flags.old }
     ensures here { slice_index_or flags.new at true ≡ true }
     ensures others { (i : ℕ) → slice_index_or flags.new i true ≡ false → (i == at) ≡ false → slice_index_or flags.old i true ≡ false }
 {

@@ -1,17 +1,17 @@
 //! The numbers of the bindings that hold the object that was written.
-ghost use Rattle.std.specs.Prelude.{◌≡◌, ◌<◌, ◌≤◌, ◌+◌, ◌*◌, ◌^◌, ◌==◌, ◌&&◌, ◌||◌, ◌∷◌, ◌++◌, ℕ, [], true, false, nat_lt, All, length, map, if◌then◌else◌, IfOk, OnOk};
+ghost use Rattle.std.specs.Prelude.{◌≡◌, ◌<◌, ◌+◌, ◌*◌, ◌^◌, ◌==◌, ◌&&◌, ◌||◌, ◌∷◌, ◌++◌, ℕ, [], true, false, nat_lt, All, length, map, if◌then◌else◌, IfOk, OnOk};
 ghost use Rattle.tick_set.specs.TickList.{has};
-ghost use Rattle.kept_rows.specs.Numbers.{counts, holds_written, size_of};
+ghost use Rattle.kept_rows.specs.Numbers.{IsBindingCount, counts, holds_written, size_of};
 ghost use Rattle.kept_rows.specs.Rising.{AscendsWithin};
 
-use crate::binding::{BINDING_LIMIT, Variable};
+use crate::binding::Variable;
 use crate::numbers::size;
 use std::alloc::{AllocError, Global};
 
 /// The numbers of the bindings that hold the object that was written, ascending and each once. No list that is
 /// made on the way is longer.
 pub fn held_numbers(alloc: Global, variables: &[Variable]) -> Result<Vec<u32>, AllocError>
-    requires { size_of variables.now ≤ BINDING_LIMIT }
+    requires { IsBindingCount (size_of variables.now) }
     ensures rising { IfOk result (λ r. AscendsWithin 0 (size_of variables.now) r.items) }
     ensures has { IfOk result (λ r. (c : ℕ) → has r.items c ≡ (counts variables.now c && holds_written variables.now c)) }
 {
@@ -31,7 +31,7 @@ struct Numbers {
 // The numbers of the bindings of these variables. All of the later variables are made only where an earlier one
 // may be the object that was written: else one update would visit all places of another class.
 fn numbers_of(alloc: Global, variables: &[Variable], needs_all: bool) -> Result<Numbers, AllocError>
-    requires { size_of variables.now ≤ BINDING_LIMIT }
+    requires { IsBindingCount (size_of variables.now) }
     ensures all_rising { IfOk result (λ n. AscendsWithin 0 (size_of variables.now) n.all.items) }
     ensures held_rising { IfOk result (λ n. AscendsWithin 0 (size_of variables.now) n.held.items) }
     ensures all { IfOk result (λ n. needs_all ≡ true → (c : ℕ) → has n.all.items c ≡ counts variables.now c) }
@@ -89,7 +89,7 @@ fn all_if(
     width: u32,
     all: &[u32],
 ) -> Result<Vec<u32>, AllocError>
-    requires size { variable.now.capacity * width ≤ BINDING_LIMIT }
+    requires size { IsBindingCount (variable.now.capacity * width) }
     requires all { AscendsWithin 0 width all.now }
     ensures rising { IfOk result (λ r. AscendsWithin 0 (variable.now.capacity * width) r.items) }
     ensures has { IfOk result (λ r. needs_all ≡ true → (p d : ℕ) → d < width → has r.items (p * width + d)
@@ -110,7 +110,7 @@ fn spread(
     all: &[u32],
     held: &[u32],
 ) -> Result<Vec<u32>, AllocError>
-    requires size { variable.now.capacity * width ≤ BINDING_LIMIT }
+    requires size { IsBindingCount (variable.now.capacity * width) }
     requires all { AscendsWithin 0 width all.now }
     requires held { AscendsWithin 0 width held.now }
     ensures rising { IfOk result (λ r. AscendsWithin 0 (variable.now.capacity * width) r.items) }
@@ -131,7 +131,7 @@ fn at_own_place(
     width: u32,
     all: &[u32],
 ) -> Result<Vec<u32>, AllocError>
-    requires size { variable.now.capacity * width ≤ BINDING_LIMIT }
+    requires size { IsBindingCount (variable.now.capacity * width) }
     requires all { AscendsWithin 0 width all.now }
     ensures rising { IfOk result (λ r. AscendsWithin 0 (variable.now.capacity * width) r.items) }
     ensures has { IfOk result (λ r. (p d : ℕ) → d < width → has r.items (p * width + d)
@@ -154,7 +154,7 @@ fn at_each_place(
     all: &[u32],
     held: &[u32],
 ) -> Result<Vec<u32>, AllocError>
-    requires size { variable.now.capacity * width ≤ BINDING_LIMIT }
+    requires size { IsBindingCount (variable.now.capacity * width) }
     requires all { AscendsWithin 0 width all.now }
     requires held { AscendsWithin 0 width held.now }
     ensures rising { IfOk result (λ r. AscendsWithin 0 (variable.now.capacity * width) r.items) }

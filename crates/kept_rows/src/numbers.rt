@@ -1,7 +1,7 @@
 //! The number of a binding and the places of a number.
 ghost use Rattle.std.specs.Prelude.{◌≡◌, ◌<◌, ◌≤◌, ◌+◌, ◌*◌, ◌↔◌, ℕ, IsTrue, length, slice_get, slice_index, IfSome, IfNone};
 ghost use Rattle.std.specs.Option.{SomeIff};
-ghost use Rattle.kept_rows.specs.Numbers.{ArePlaces, number_of, places_of, size_of};
+ghost use Rattle.kept_rows.specs.Numbers.{ArePlaces, IsBindingCount, number_of, places_of, size_of};
 
 use crate::binding::{BINDING_LIMIT, Variable};
 
@@ -30,7 +30,7 @@ fn product_within(capacity: u32, size: u32) -> Option<u32>
 
 /// How many numbers the bindings of these variables may have: the product of the capacities.
 pub fn size(variables: &[Variable]) -> u32
-    requires { size_of variables.now ≤ BINDING_LIMIT }
+    requires { IsBindingCount (size_of variables.now) }
     ensures value { result ≡ size_of variables.now }
     ensures some { 0 < result }
 {
@@ -42,7 +42,7 @@ pub fn size(variables: &[Variable]) -> u32
 
 /// The number of the binding of these places, one below its capacity for each variable.
 pub fn number(variables: &[Variable], places: &[u32]) -> u32
-    requires size { size_of variables.now ≤ BINDING_LIMIT }
+    requires size { IsBindingCount (size_of variables.now) }
     requires places { ArePlaces variables.now places.now }
     ensures value { result ≡ number_of variables.now places.now }
     ensures below { result < size_of variables.now }
@@ -55,7 +55,7 @@ pub fn number(variables: &[Variable], places: &[u32]) -> u32
 
 /// The place of one variable, counted from 0, in the binding of a number.
 pub fn place(variables: &[Variable], number: u32, at: usize) -> u32
-    requires size { size_of variables.now ≤ BINDING_LIMIT }
+    requires size { IsBindingCount (size_of variables.now) }
     requires at { at < length variables.now }
     ensures { slice_get (places_of variables.now number) at ≡ Some result }
 {

@@ -2,7 +2,7 @@
 ghost use Rattle.std.specs.Prelude.{◌≡◌, ◌<◌, ◌≤◌, ◌==◌, ◌||◌, ℕ, [], true, false, length, slice_get, slice_set, if◌then◌else◌, IfOk, IfSome, IfNone};
 ghost use Rattle.std.specs.Option.{option_copied};
 ghost use Rattle.kept_rows.specs.Listing.{IsNext};
-ghost use Rattle.kept_rows.specs.Rows.{IsPage, is_whole, page_has};
+ghost use Rattle.kept_rows.specs.Rows.{IsBlankPage, IsPage, is_whole, page_has};
 ghost use Rattle.kept_rows.specs.Slots.{AreIn};
 ghost use Rattle.kept_rows.specs.Turning.{IsSteady};
 
@@ -46,7 +46,7 @@ impl<S: TickSet> Page<S> {
     /// A page of sets without ticks.
     pub(crate) fn blank(alloc: Global) -> Result<Page<S>, AllocError>
         ensures whole { IfOk result (λ page. is_whole page ≡ true) }
-        ensures empty { IfOk result (λ page. (i t : ℕ) → page_has S.member page i t ≡ false) }
+        ensures empty { IfOk result (λ page. IsBlankPage S.member page) }
     {
         let mut cells = Vec::with_capacity(alloc, PAGE)?;
         'cells: while cells.len() < PAGE {
@@ -91,7 +91,7 @@ impl<S: TickSet> Page<S> {
     pub(crate) fn put(&mut self, at: usize, ticks: S, spare: Page<S>)
         requires at { at < 16 }
         requires page { (is_whole self.old || is_whole spare) ≡ true }
-        requires blank { (i t : ℕ) → page_has S.member spare i t ≡ false }
+        requires blank { IsBlankPage S.member spare }
         ensures whole { is_whole self.new ≡ true }
         ensures has { (i t : ℕ) → page_has S.member self.new i t
             ≡ (if i == at then S.member ticks t else page_has S.member self.old i t) }
@@ -103,7 +103,7 @@ impl<S: TickSet> Page<S> {
     // Puts the spare page, which has no ticks, in the place of one that isn't made.
     fn make(&mut self, spare: Page<S>)
         requires page { (is_whole self.old || is_whole spare) ≡ true }
-        requires blank { (i t : ℕ) → page_has S.member spare i t ≡ false }
+        requires blank { IsBlankPage S.member spare }
         ensures whole { is_whole self.new ≡ true }
         ensures has { (i t : ℕ) → page_has S.member self.new i t ≡ page_has S.member self.old i t }
     {

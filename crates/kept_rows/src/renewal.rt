@@ -1,12 +1,12 @@
 //! Rows judged anew.
-ghost use Rattle.std.specs.Prelude.{◌≡◌, ◌<◌, ◌≤◌, ◌+◌, ◌*◌, ◌&&◌, ◌∷◌, ℕ, Bool, [], false, nat_le, length, if◌then◌else◌, IfOk, OnOk};
+ghost use Rattle.std.specs.Prelude.{◌≡◌, ◌<◌, ◌+◌, ◌*◌, ◌&&◌, ◌∷◌, ℕ, Bool, [], false, nat_le, length, if◌then◌else◌, IfOk, OnOk};
 ghost use Rattle.tick_set.specs.TickList.{has};
 ghost use Rattle.kept_rows.specs.Changes.{AreReady, AreRising, DoDiffer, rows_after};
-ghost use Rattle.kept_rows.specs.Numbers.{counts, holds_written, size_of};
+ghost use Rattle.kept_rows.specs.Numbers.{IsBindingCount, counts, holds_written, size_of};
 ghost use Rattle.kept_rows.specs.Rising.{AscendsWithin};
 ghost use Rattle.kept_rows.specs.Rows.{HasRoom, row_has};
 
-use crate::binding::{BINDING_LIMIT, Variable};
+use crate::binding::Variable;
 use crate::change::Changes;
 use crate::held::held_numbers;
 use crate::rows::KeptRows;
@@ -32,7 +32,7 @@ pub fn refresh<S: TickSet, J: Judge<S>>(
     judge: &J,
     from: u32,
 ) -> Result<Changes<S>, AllocError>
-    requires size { size_of variables.now ≤ BINDING_LIMIT }
+    requires size { IsBindingCount (size_of variables.now) }
     requires room { HasRoom kept.now (size_of variables.now) }
     ensures ready { IfOk result (λ f. AreReady S.member kept.now f) }
     ensures rising { IfOk result (λ f. AreRising (size_of variables.now) f) }

@@ -2,9 +2,10 @@
 ghost use Rattle.std.specs.Prelude.{◌≡◌, ◌<◌, ◌≤◌, ◌*◌, ◌/◌, ◌^◌, ◌==◌, ◌||◌, ℕ, [], true, false, length, slice_index_or, if◌then◌else◌, IfOk, IfSome, IfNone, OnErr, OnOk};
 ghost use Rattle.std.specs.Option.{SomeIff};
 ghost use Rattle.kept_rows.specs.Listing.{HaveNone, IsNext};
-ghost use Rattle.kept_rows.specs.Rows.{HasRoom, is_made, is_whole, page_has, row_has};
+ghost use Rattle.kept_rows.specs.Rows.{HasRoom, IsBlankPage, is_made, is_whole, row_has};
 ghost use Rattle.kept_rows.specs.Slots.{HaveNoneAt, IsNextAt};
 ghost use Rattle.kept_rows.specs.Turning.{AgreeBetween, IsNextDiffering};
+ghost use Rattle.exact.specs.Lists.{SameLength};
 
 use crate::change::spare_page;
 use crate::filled::Filled;
@@ -164,8 +165,8 @@ impl<S: Turning> KeptRows<S> {
     pub(crate) fn put(&mut self, number: u32, ticks: S, spare: Page<S>)
         requires there { number / 16 < length self.old }
         requires page { (is_made self.old number || is_whole spare) ≡ true }
-        requires blank { (i t : ℕ) → page_has S.member spare i t ≡ false }
-        ensures len { length self.new ≡ length self.old }
+        requires blank { IsBlankPage S.member spare }
+        ensures len { SameLength self.new self.old }
         ensures made { (c : ℕ) → is_made self.old c ≡ true → is_made self.new c ≡ true }
         ensures rows { (c t : ℕ) → row_has S.member self.new c t
             ≡ (if c == number then S.member ticks t else row_has S.member self.old c t) }
@@ -184,7 +185,7 @@ impl<S: Turning> KeptRows<S> {
     /// Writes the row of a number. It takes memory only for a page that isn't made yet; on error nothing has changed.
     pub fn set_row(&mut self, alloc: Global, number: u32, ticks: S) -> Result<(), AllocError>
         requires { number / 16 < length self.old }
-        ensures len { length self.new ≡ length self.old }
+        ensures len { SameLength self.new self.old }
         ensures rows { OnOk result ((c t : ℕ) → row_has S.member self.new c t
             ≡ (if c == number then S.member ticks t else row_has S.member self.old c t)) }
         ensures err { OnErr result (self.new ≡ self.old) }

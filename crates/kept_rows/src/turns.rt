@@ -2,6 +2,7 @@
 ghost use Rattle.std.specs.Prelude.{◌≡◌, ◌<◌, ◌≤◌, ◌+◌, ◌*◌, ◌/◌, ◌^◌, ◌==◌, ℕ, Bool, length, slice_index_or, if◌then◌else◌, IfOk, IfSome, IfNone};
 ghost use Rattle.kept_rows.specs.Rows.{row_has};
 ghost use Rattle.kept_rows.specs.Turning.{AreSteadyIn, AreSteadyToEnds, HaveEnds, IsSteady};
+ghost use Rattle.exact.specs.Lists.{SameLength};
 
 use crate::page::{PAGE, Page};
 use crate::turning::Turning;
@@ -84,7 +85,7 @@ impl Turns {
     /// Notes that the row of a number is written, with ticks that stay as they are up to `end`.
     pub(crate) fn lower(&mut self, number: u32, end: u32)
         ensures seen { self.new.seen ≡ self.old.seen }
-        ensures pages { length self.new.pages.items ≡ length self.old.pages.items }
+        ensures pages { SameLength self.new.pages.items self.old.pages.items }
         ensures steady { (rows : ℕ → ℕ → Bool) (ticks : ℕ → Bool) → AreSteadyToEnds rows self.old → IsSteady ticks self.old.seen end
             → AreSteadyToEnds (λ c t. if c == number then ticks t else rows c t) self.new }
     {
@@ -96,9 +97,9 @@ impl Turns {
     /// Tells until when the rows of these pages stay as they are from tick `now` on, if that is after the tick that
     /// was seen. It looks only into pages that turn by then.
     pub(crate) fn renew<S: Turning>(&mut self, pages: &[Page<S>], now: u32)
-        requires pages { length self.old.pages.items ≡ length pages.now }
+        requires pages { SameLength self.old.pages.items pages.now }
         requires steady { AreSteadyToEnds (row_has S.member pages.now) self.old }
-        ensures pages { length self.new.pages.items ≡ length self.old.pages.items }
+        ensures pages { SameLength self.new.pages.items self.old.pages.items }
         ensures steady { AreSteadyToEnds (row_has S.member pages.now) self.new }
     {
         if now <= self.seen {
@@ -110,9 +111,9 @@ impl Turns {
 
     // Tells anew until when the groups stay as they are that don't from the tick that was seen on.
     fn renew_groups<S: Turning>(&mut self, pages: &[Page<S>])
-        requires pages { length self.old.pages.items ≡ length pages.now }
+        requires pages { SameLength self.old.pages.items pages.now }
         requires steady { AreSteadyToEnds (row_has S.member pages.now) self.old }
-        ensures pages { length self.new.pages.items ≡ length self.old.pages.items }
+        ensures pages { SameLength self.new.pages.items self.old.pages.items }
         ensures steady { AreSteadyToEnds (row_has S.member pages.now) self.new }
     {
         let count = self.groups.len().min(self.pages.len() / GROUP + 1);
@@ -127,10 +128,10 @@ impl Turns {
     fn renew_group<S: Turning>(&mut self, pages: &[Page<S>], group: usize)
         requires there { group < length self.old.groups.items }
         requires within { group * 64 ≤ length self.old.pages.items }
-        requires pages { length self.old.pages.items ≡ length pages.now }
+        requires pages { SameLength self.old.pages.items pages.now }
         requires steady { AreSteadyToEnds (row_has S.member pages.now) self.old }
-        ensures pages { length self.new.pages.items ≡ length self.old.pages.items }
-        ensures groups { length self.new.groups.items ≡ length self.old.groups.items }
+        ensures pages { SameLength self.new.pages.items self.old.pages.items }
+        ensures groups { SameLength self.new.groups.items self.old.groups.items }
         ensures steady { AreSteadyToEnds (row_has S.member pages.now) self.new }
     {
         if self.groups[group] > self.seen {
@@ -154,7 +155,7 @@ fn end_at(ends: &[u32], at: usize) -> u32
 
 // Lowers the end of a place, if it is above this one.
 fn lower_at(ends: &mut [u32], at: usize, end: u32)
-    ensures len { length ends.new ≡ length ends.old }
+    ensures len { SameLength ends.new ends.old }
     ensures lowered { slice_index_or ends.new at 0 ≤ end }
     ensures others { (i : ℕ) → slice_index_or ends.new i 0 ≤ slice_index_or ends.old i 0 }
 {
@@ -178,9 +179,9 @@ fn row_end<S: Turning>(pages: &[Page<S>], number: usize, seen: u32) -> u32
 // the group's ends.
 fn renew_pages<S: Turning>(ends: &mut [u32], pages: &[Page<S>], group: usize, seen: u32) -> u32
     requires within { group * 64 ≤ length ends.old }
-    requires len { length ends.old ≡ length pages.now }
+    requires len { SameLength ends.old pages.now }
     requires steady { HaveEnds 16 (row_has S.member pages.now) seen ends.old }
-    ensures len { length ends.new ≡ length ends.old }
+    ensures len { SameLength ends.new ends.old }
     ensures steady { HaveEnds 16 (row_has S.member pages.now) seen ends.new }
     ensures least { (i : ℕ) → group * 64 ≤ i → i < group * 64 + 64 → i < length ends.new → result ≤ slice_index_or ends.new i 0 }
 {
@@ -198,9 +199,9 @@ fn renew_pages<S: Turning>(ends: &mut [u32], pages: &[Page<S>], group: usize, se
 // Tells anew until when a page stays as it is, if it doesn't from tick `seen` on.
 fn renew_page<S: Turning>(ends: &mut [u32], pages: &[Page<S>], at: usize, seen: u32)
     requires there { at < length ends.old }
-    requires len { length ends.old ≡ length pages.now }
+    requires len { SameLength ends.old pages.now }
     requires steady { HaveEnds 16 (row_has S.member pages.now) seen ends.old }
-    ensures len { length ends.new ≡ length ends.old }
+    ensures len { SameLength ends.new ends.old }
     ensures others { (i : ℕ) → i < at → slice_index_or ends.new i 0 ≡ slice_index_or ends.old i 0 }
     ensures steady { HaveEnds 16 (row_has S.member pages.now) seen ends.new }
 {

@@ -1,6 +1,8 @@
 //! Two motions along lines, and the square of their distance.
 ghost use Rattle.std.specs.Prelude.{◌≡◌, ℕ, ◌+◌, ◌*◌, ◌^◌, ◌<◌, ◌≤◌, pos, ◌+ℤ◌, ◌-ℤ◌, ◌*ℤ◌, ◌≤ℤ◌, ◌<ℤ◌, unsigned_abs};
 ghost use Rattle.exact.specs.Rising.{DropsTo, RisesIn};
+ghost use Rattle.linear_crossing.specs.Moving.{IsCoordinateDifference};
+ghost use Rattle.fixed_point.specs.Sizes.{IsSlopeDifference};
 
 use crate::linear::first_reached;
 use exact::{plus, times};
@@ -167,8 +169,8 @@ fn coordinate(start: Fix, step: Slope, k: u32) -> Fix
 // A difference of coordinates, or a coordinate, after `k` ticks.
 #[inline]
 fn moved(start: i64, step: i64, k: u32) -> i64
-    requires start_size { unsigned_abs start ≤ 2 * COORDINATE_LIMIT }
-    requires step_size { unsigned_abs step ≤ 2 * SLOPE_LIMIT }
+    requires start_size { IsCoordinateDifference start }
+    requires step_size { IsSlopeDifference step }
     ensures value { result ≡ start +ℤ step *ℤ pos k }
     // Rounded up from 2 * COORDINATE_LIMIT + 2 * SLOPE_LIMIT * (2 ^ 32 - 1), whatever the number of ticks.
     ensures size { unsigned_abs result ≤ 2 * 10 ^ 16 }

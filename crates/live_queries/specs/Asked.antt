@@ -4,7 +4,7 @@ use Rattle.std.specs.Option.{option_map_or}
 use Rattle.history.specs.Catalog.{Catalog}
 use Rattle.history.specs.World.{World}
 use Rattle.meaning.specs.Fits.{FitsItsClasses}
-use Rattle.object_store.specs.Contents.{Contents}
+use Rattle.object_store.specs.Contents.{Contents, IsObjectId}
 use Rattle.live_queries.specs.Columns.{HaveCapacitiesOf, HaveObjectsOf}
 use Rattle.live_queries.specs.Kept.{KeptQuery}
 use Rattle.live_queries.specs.Renewed.{AddsAtMost}
@@ -28,3 +28,8 @@ pub record HaveObjectsBefore (id : ℕ) (new : Catalog) (live : List KeptQuery) 
 -- the class of an object, by its number
 abbrev pub class_in : Contents → ℕ → ℕ
 class_in s id = option_map_or (λ o. o.class) (slice_get s.objects id) 0
+
+-- a store has the object, in the class
+pub record IsObjectWithClass (store : Contents) (id number : ℕ) : Type 0 where
+  pub there : IsObjectId store id
+  pub class : number ≡ class_in store id

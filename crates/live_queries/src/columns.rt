@@ -4,7 +4,7 @@ ghost use Rattle.std.specs.List.{list_any, list_all};
 ghost use Rattle.history.specs.Catalog.{capacity_of, ids_of};
 ghost use Rattle.formula.specs.Resolved.{IsResolved};
 ghost use Rattle.formula.specs.Tree.{resolved_view};
-ghost use Rattle.object_store.specs.Contents.{catalog_of, ids_in};
+ghost use Rattle.object_store.specs.Contents.{IsClassNumber, catalog_of, ids_in};
 ghost use Rattle.live_queries.specs.Columns.{AreColumnsOf, IsColumnOf, order_of};
 ghost use Rattle.live_queries.specs.Prepared.{HaveRoomFor};
 ghost use Rattle.live_queries.specs.Written.{AreVariablesWith, DoAscendWith, lacks_objects};
@@ -68,7 +68,7 @@ fn column(alloc: Global, query: &RQuery, store: &Store, variable: u8) -> Result<
 
 // How many objects a class may have, which are at least as many as it has.
 fn capacity(store: &Store, class: ClassNo) -> u32
-    requires { class < length store.now.classes }
+    requires { IsClassNumber store.now class }
     ensures value { result ≡ capacity_of (catalog_of store.now).classes class }
     ensures some { 1 ≤ result }
     ensures room { length (ids_in store.now.objects class) ≤ result }

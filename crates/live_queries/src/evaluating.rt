@@ -1,14 +1,15 @@
 //! The rows of queries by evaluation.
 ghost use Rattle.std.specs.Prelude.{◌≡◌, ◌<◌, ◌≤◌, ◌+◌, ◌-◌, ◌&&◌, ◌*◌, ◌∷◌, ℕ, [], true, List, nat_le, length, map, IfOk, if◌then◌else◌};
 ghost use Rattle.tick_set.specs.Runs.{spans_have};
-ghost use Rattle.tick_set.specs.Ticks.{within};
-ghost use Rattle.tick_set.specs.declared.spans.TheConstants.{LAST_TICK, SPAN_LIMIT};
+ghost use Rattle.tick_set.specs.Ticks.{IsTick, within};
+ghost use Rattle.tick_set.specs.declared.spans.TheConstants.{SPAN_LIMIT};
+ghost use Rattle.tick_set.specs.Windows.{IsQueryWindow};
 ghost use Rattle.formula.specs.Resolved.{IsResolved};
 ghost use Rattle.formula.specs.Tree.{resolved_view};
 ghost use Rattle.kept_rows.specs.declared.binding.TheConstants.{BINDING_LIMIT};
 ghost use Rattle.kept_rows.specs.Changes.{AreReady, AreRising, rows_after};
 ghost use Rattle.kept_rows.specs.Exact.{AreFullRows};
-ghost use Rattle.kept_rows.specs.Numbers.{counts, size_of};
+ghost use Rattle.kept_rows.specs.Numbers.{IsBindingCount, counts, size_of};
 ghost use Rattle.kept_rows.specs.Rows.{HasRoom, row_has};
 ghost use Rattle.meaning.specs.Binding.{holds_full};
 ghost use Rattle.meaning.specs.Fits.{FitsItsClasses};
@@ -16,10 +17,11 @@ ghost use Rattle.meaning.specs.Reads.{change_reads, query_reads, sizes_of};
 ghost use Rattle.object_store.specs.Contents.{catalog_of};
 ghost use Rattle.atoms.specs.Asked.{told_world};
 ghost use Rattle.answers.specs.Objects.{IsOfAcceptedWrites};
-ghost use Rattle.live_queries.specs.Asked.{class_in};
+ghost use Rattle.live_queries.specs.Asked.{IsObjectWithClass};
 ghost use Rattle.live_queries.specs.Columns.{AreColumnsOf, AreCounted, Column, column_variables, gives, object_at_number, order_of};
 ghost use Rattle.live_queries.specs.Prepared.{AreColumnsWith, HaveRoomFor};
 ghost use Rattle.live_queries.specs.Written.{HaveObjectsWith, takes_object};
+ghost use Rattle.steps.specs.Counting.{StepsAtMost};
 
 use crate::columns::numbers_with;
 use crate::judging::{Alone, Parts};
@@ -53,15 +55,14 @@ pub(crate) fn rows_between<L: Ledger, M: Ledger>(
     requires resolved { IsResolved (resolved_view query.now) }
     requires fits { FitsItsClasses (told_world world.now) (resolved_view query.now) }
     requires columns { AreColumnsOf (catalog_of world.now.store.now) query.now.classes (order_of (resolved_view query.now)) columns.now }
-    requires size { size_of (column_variables columns.now) ≤ BINDING_LIMIT }
-    requires last { hi ≤ LAST_TICK }
+    requires size { IsBindingCount (size_of (column_variables columns.now)) }
+    requires last { IsTick hi }
     requires length { hi - lo ≤ SPAN_LIMIT }
     ensures room { IfOk result (λ rows. HasRoom rows (size_of (column_variables columns.now))) }
     ensures rows { IfOk result (λ rows. AreFullRows (row_has spans_have rows) (counts (column_variables columns.now))
         (λ n t. within lo hi t && holds_full (told_world world.now) (resolved_view query.now) hi (object_at_number columns.now n) t)) }
-    ensures least { reads.old ≤ reads.new }
-    ensures most { reads.new ≤ reads.old
-        + query_reads (sizes_of (catalog_of world.now.store.now) (resolved_view query.now)) (hi + 1 - lo) (resolved_view query.now) }
+    ensures reads { StepsAtMost reads.old reads.new
+        (query_reads (sizes_of (catalog_of world.now.store.now) (resolved_view query.now)) (hi + 1 - lo) (resolved_view query.now)) }
 {
     match Window::new(lo, hi) {
         Some(w) => first_rows(alloc, query, columns, world, w, reads, probes),
@@ -83,14 +84,13 @@ fn first_rows<L: Ledger, M: Ledger>(
     requires resolved { IsResolved (resolved_view query.now) }
     requires fits { FitsItsClasses (told_world world.now) (resolved_view query.now) }
     requires columns { AreColumnsOf (catalog_of world.now.store.now) query.now.classes (order_of (resolved_view query.now)) columns.now }
-    requires size { size_of (column_variables columns.now) ≤ BINDING_LIMIT }
-    requires length { w.hi - w.lo ≤ SPAN_LIMIT }
+    requires size { IsBindingCount (size_of (column_variables columns.now)) }
+    requires length { IsQueryWindow w }
     ensures room { IfOk result (λ rows. HasRoom rows (size_of (column_variables columns.now))) }
     ensures rows { IfOk result (λ rows. AreFullRows (row_has spans_have rows) (counts (column_variables columns.now))
         (λ n t. within w.lo w.hi t && holds_full (told_world world.now) (resolved_view query.now) w.hi (object_at_number columns.now n) t)) }
-    ensures least { reads.old ≤ reads.new }
-    ensures most { reads.new ≤ reads.old
-        + query_reads (sizes_of (catalog_of world.now.store.now) (resolved_view query.now)) (w.hi + 1 - w.lo) (resolved_view query.now) }
+    ensures reads { StepsAtMost reads.old reads.new
+        (query_reads (sizes_of (catalog_of world.now.store.now) (resolved_view query.now)) (w.hi + 1 - w.lo) (resolved_view query.now)) }
 {
     let domains = domains_of(alloc, query, world.store)?;
     let full = evaluate(
@@ -122,15 +122,14 @@ pub(crate) fn new_rows<L: Ledger, M: Ledger>(
     requires accepted { IsOfAcceptedWrites judged.now.world.now.store.now }
     requires resolved { IsResolved (resolved_view judged.now.query.now) }
     requires fits { FitsItsClasses (told_world judged.now.world.now) (resolved_view judged.now.query.now) }
-    requires there { object.now.id < length judged.now.world.now.store.now.objects }
-    requires class { object.now.class ≡ class_in judged.now.world.now.store.now object.now.id }
+    requires object { IsObjectWithClass judged.now.world.now.store.now object.now.id object.now.class }
     requires order { map (λ c. c.variable) columns.now ≡ order_of (resolved_view judged.now.query.now) }
     requires room { grows ≡ true → HaveRoomFor object.now.class judged.now.query.now.classes columns.now }
     requires objects { HaveObjectsWith (catalog_of judged.now.world.now.store.now) grows object.now.class judged.now.query.now.classes object.now.id columns.now }
     requires counted { AreCounted columns.now }
-    requires size { size_of (column_variables columns.now) ≤ BINDING_LIMIT }
+    requires size { IsBindingCount (size_of (column_variables columns.now)) }
     requires pages { HasRoom judged.now.rows.now (size_of (column_variables columns.now)) }
-    requires length { judged.now.w.hi - judged.now.w.lo ≤ SPAN_LIMIT }
+    requires length { IsQueryWindow judged.now.w }
     ensures ready { IfOk result (λ f. AreReady spans_have judged.now.rows.now f) }
     ensures rising { IfOk result (λ f. AreRising (size_of (column_variables columns.now)) f) }
     ensures rows { IfOk result (λ f. (ds : List Column) → AreColumnsWith grows object.now.class judged.now.query.now.classes object.now.id columns.now ds → (c t : ℕ)
@@ -138,8 +137,8 @@ pub(crate) fn new_rows<L: Ledger, M: Ledger>(
         ≡ (if (counts (column_variables ds) c && gives ds object.now.id c) && nat_le judged.now.from t
         then (within judged.now.w.lo judged.now.w.hi t && holds_full (told_world judged.now.world.now) (resolved_view judged.now.query.now) judged.now.w.hi (object_at_number ds c) t)
         else row_has spans_have judged.now.rows.now c t)) }
-    ensures least { reads.old ≤ reads.new }
-    ensures most { reads.new ≤ reads.old + change_reads (catalog_of judged.now.world.now.store.now) (resolved_view judged.now.query.now) (judged.now.w.hi + 1 - judged.now.w.lo) object.now.class }
+    ensures reads { StepsAtMost reads.old reads.new
+        (change_reads (catalog_of judged.now.world.now.store.now) (resolved_view judged.now.query.now) (judged.now.w.hi + 1 - judged.now.w.lo) object.now.class) }
 {
     let classes = judged.query.classes.items();
     if let Some((column, later)) = columns.split_first() {
@@ -191,8 +190,7 @@ fn new_row<L: Ledger, M: Ledger>(
     requires accepted { IsOfAcceptedWrites judged.now.world.now.store.now }
     requires resolved { IsResolved (resolved_view judged.now.query.now) }
     requires fits { FitsItsClasses (told_world judged.now.world.now) (resolved_view judged.now.query.now) }
-    requires there { object.now.id < length judged.now.world.now.store.now.objects }
-    requires class { object.now.class ≡ class_in judged.now.world.now.store.now object.now.id }
+    requires object { IsObjectWithClass judged.now.world.now.store.now object.now.id object.now.class }
     requires alone { judged.now.query.now.classes ≡ object.now.class ∷ [] }
     requires order { map (λ c. c.variable) (column.now ∷ []) ≡ order_of (resolved_view judged.now.query.now) }
     requires room { grows ≡ true → HaveRoomFor object.now.class judged.now.query.now.classes (column.now ∷ []) }
@@ -200,7 +198,7 @@ fn new_row<L: Ledger, M: Ledger>(
     requires counted { AreCounted (column.now ∷ []) }
     requires size { size_of (column_variables (column.now ∷ [])) ≤ BINDING_LIMIT }
     requires pages { HasRoom judged.now.rows.now (size_of (column_variables (column.now ∷ []))) }
-    requires length { judged.now.w.hi - judged.now.w.lo ≤ SPAN_LIMIT }
+    requires length { IsQueryWindow judged.now.w }
     ensures ready { IfOk result (λ f. AreReady spans_have judged.now.rows.now f) }
     ensures rising { IfOk result (λ f. AreRising (size_of (column_variables (column.now ∷ []))) f) }
     ensures rows { IfOk result (λ f. (ds : List Column) → AreColumnsWith grows object.now.class judged.now.query.now.classes object.now.id (column.now ∷ []) ds → (c t : ℕ)
@@ -208,8 +206,8 @@ fn new_row<L: Ledger, M: Ledger>(
         ≡ (if (counts (column_variables ds) c && gives ds object.now.id c) && nat_le judged.now.from t
         then (within judged.now.w.lo judged.now.w.hi t && holds_full (told_world judged.now.world.now) (resolved_view judged.now.query.now) judged.now.w.hi (object_at_number ds c) t)
         else row_has spans_have judged.now.rows.now c t)) }
-    ensures least { reads.old ≤ reads.new }
-    ensures most { reads.new ≤ reads.old + change_reads (catalog_of judged.now.world.now.store.now) (resolved_view judged.now.query.now) (judged.now.w.hi + 1 - judged.now.w.lo) object.now.class }
+    ensures reads { StepsAtMost reads.old reads.new
+        (change_reads (catalog_of judged.now.world.now.store.now) (resolved_view judged.now.query.now) (judged.now.w.hi + 1 - judged.now.w.lo) object.now.class) }
 {
     let world = judged.world;
     let ticks = evaluate_alone(

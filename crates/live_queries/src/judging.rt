@@ -2,7 +2,7 @@
 ghost use Rattle.std.specs.Prelude.{◌≡◌, ◌≤◌, ℕ, false};
 ghost use Rattle.tick_set.specs.Runs.{spans_have};
 ghost use Rattle.kept_rows.specs.declared.binding.TheConstants.{BINDING_LIMIT};
-ghost use Rattle.kept_rows.specs.Numbers.{size_of};
+ghost use Rattle.kept_rows.specs.Numbers.{IsBindingCount, size_of};
 ghost use Rattle.relation.specs.Rows.{table_has};
 ghost use Rattle.live_queries.specs.Columns.{column_variables, object_or};
 ghost use Rattle.live_queries.specs.Written.{parts_have};
@@ -61,7 +61,7 @@ fn row_of<'a>(
     added: u32,
     nothing: &'a IntervalSet,
 ) -> &'a IntervalSet
-    requires size { size_of (column_variables columns.now) ≤ BINDING_LIMIT }
+    requires size { IsBindingCount (size_of (column_variables columns.now)) }
     requires none { (t : ℕ) → spans_have nothing.now t ≡ false }
     ensures { (t : ℕ) → spans_have result.now t ≡ table_has spans_have rows.now (object_or added columns.now number) t }
 {
@@ -80,7 +80,7 @@ fn row_in_parts<'a>(
     object: u32,
     nothing: &'a IntervalSet,
 ) -> &'a IntervalSet
-    requires size { size_of (column_variables columns.now) ≤ BINDING_LIMIT }
+    requires size { IsBindingCount (size_of (column_variables columns.now)) }
     requires none { (t : ℕ) → spans_have nothing.now t ≡ false }
     ensures { (t : ℕ) → spans_have result.now t ≡ parts_have parts.now object (object_or object columns.now number) t }
 {

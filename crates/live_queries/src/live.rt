@@ -3,18 +3,18 @@ ghost use Rattle.std.specs.Prelude.{◌≡◌, ◌<◌, ◌≤◌, ◌+◌, ◌-
 ghost use Rattle.std.specs.List.{filter, flat_map, list_any};
 ghost use Rattle.std.specs.Option.{option_copied};
 ghost use Rattle.std.specs.Str.{bytes_eq};
-ghost use Rattle.tick_set.specs.declared.spans.TheConstants.{LAST_TICK, SPAN_LIMIT};
+ghost use Rattle.tick_set.specs.Windows.{AreQueryEnds};
 ghost use Rattle.formula.specs.Resolved.{IsResolved};
 ghost use Rattle.formula.specs.Tree.{resolved_view};
 ghost use Rattle.meaning.specs.Fits.{FitsItsClasses};
 ghost use Rattle.meaning.specs.Reads.{query_reads, sizes_of, write_reads};
-ghost use Rattle.object_store.specs.Contents.{catalog_of};
+ghost use Rattle.object_store.specs.Contents.{IsObjectId, catalog_of};
 ghost use Rattle.atoms.specs.Asked.{told_world, world_in};
 ghost use Rattle.answers.specs.Objects.{IsOfAcceptedWrites};
 ghost use Rattle.kept_rows.specs.declared.binding.TheConstants.{BINDING_LIMIT};
 ghost use Rattle.kept_rows.specs.Numbers.{size_of};
 ghost use Rattle.formula.specs.declared.limits.TheConstants.{QUERY_LIMIT};
-ghost use Rattle.live_queries.specs.Asked.{ExtendsCatalog, FitsWorld, HaveObjectsBefore, class_in};
+ghost use Rattle.live_queries.specs.Asked.{ExtendsCatalog, FitsWorld, HaveObjectsBefore, IsObjectWithClass, class_in};
 ghost use Rattle.history.specs.Catalog.{Catalog, most_bindings};
 ghost use Rattle.live_queries.specs.Columns.{HaveObjectsOf, column_variables};
 ghost use Rattle.live_queries.specs.Effort.{all_judged_reads, judged_reads};
@@ -24,6 +24,7 @@ ghost use Rattle.live_queries.specs.Prepared.{AddsRenewal, AreFreshFor, AreMade,
 ghost use Rattle.live_queries.specs.Registering.{AddsQuery};
 ghost use Rattle.live_queries.specs.Untouched.{spread};
 ghost use Rattle.live_queries.specs.Told.{answer_of, changes_of, info_of, passings_of, query_named, told_info};
+ghost use Rattle.steps.specs.Counting.{StepsAtMost};
 
 use crate::fresh::{Fresh, Renewals, Touched};
 use crate::objects::place_among;
@@ -209,14 +210,11 @@ impl Live {
         requires resolved { IsResolved (resolved_view query) }
         requires fits { FitsItsClasses (world_in store.now regions.now) (resolved_view query) }
         requires size { most_bindings (catalog_of store.now).classes query.classes ≤ BINDING_LIMIT }
-        requires window { info.now.entry ≤ info.now.expiry }
-        requires last { info.now.expiry ≤ LAST_TICK }
-        requires length { info.now.expiry - info.now.entry ≤ SPAN_LIMIT }
+        requires ends { AreQueryEnds info.now.entry info.now.expiry }
         ensures ok { OnOk result (AddsQuery (world_in store.now regions.now) now (told_info info.now) (resolved_view query) self.old self.new) }
         ensures err { OnErr result (self.new ≡ self.old) }
-        ensures least { reads.old ≤ reads.new }
-        ensures most { reads.new ≤ reads.old
-            + query_reads (sizes_of (catalog_of store.now) (resolved_view query)) (info.now.expiry + 1 - info.now.entry) (resolved_view query) }
+        ensures reads { StepsAtMost reads.old reads.new
+            (query_reads (sizes_of (catalog_of store.now) (resolved_view query)) (info.now.expiry + 1 - info.now.entry) (resolved_view query)) }
     {
         let world = StoredWorld { store, regions };
         let added = LiveQuery::new(alloc, info, query, &world, now, reads, probes)?;
@@ -242,14 +240,14 @@ impl Live {
     ) -> Result<Fresh, AllocError>
         requires accepted { IsOfAcceptedWrites store.now }
         requires fits { All (FitsWorld (world_in store.now regions.now)) self.now }
-        requires there { id < length store.now.objects }
+        requires there { IsObjectId store.now id }
         requires before { HaveObjectsBefore id (catalog_of store.now) self.now }
         ensures object { IfOk result (λ f. f.object ≡ id) }
         ensures class { IfOk result (λ f. f.class ≡ class_in store.now id) }
         ensures prepared { IfOk result (IsPrepared self.now) }
         ensures fresh { IfOk result (λ f. AreFreshFor (world_in store.now regions.now) f.object f.class now self.now f.renewals) }
-        ensures least { reads.old ≤ reads.new }
-        ensures most { reads.new ≤ reads.old + write_reads (catalog_of store.now) (map registered_query self.now) now (class_in store.now id) }
+        ensures reads { StepsAtMost reads.old reads.new
+            (write_reads (catalog_of store.now) (map registered_query self.now) now (class_in store.now id)) }
         ensures judged { reads.new ≤ reads.old + all_judged_reads (catalog_of store.now) self.now now (class_in store.now id) }
     {
         let class = class_of(store, id);
@@ -275,7 +273,7 @@ impl Live {
 
 // The class of an object.
 fn class_of(store: &Store, id: u32) -> ClassNo
-    requires { id < length store.now.objects }
+    requires { IsObjectId store.now id }
     ensures { result ≡ class_in store.now id }
 {
     match store.class_of(id) {
@@ -286,7 +284,7 @@ fn class_of(store: &Store, id: u32) -> ClassNo
 
 // An object with its place in the class, which is looked for once and not again for each query.
 fn written(store: &Store, class: ClassNo, id: u32) -> Written
-    requires there { id < length store.now.objects }
+    requires there { IsObjectId store.now id }
     requires class { class ≡ class_in store.now id }
     ensures written { IsOfContents store.now result }
     ensures id { result.id ≡ id }
@@ -321,8 +319,8 @@ fn add_renewal<L: Ledger, M: Ledger>(
     requires few { length renewals.old < QUERY_LIMIT }
     ensures added { OnOk result (AddsRenewal (told_world world.now) object.now.id object.now.class now query.now renewals.old renewals.new) }
     ensures sight { IsSightOf world.now.store.now object.now.id sight.new }
-    ensures least { reads.old ≤ reads.new }
-    ensures most { reads.new ≤ reads.old + judged_reads (catalog_of world.now.store.now) now object.now.class query.now }
+    ensures reads { StepsAtMost reads.old reads.new
+        (judged_reads (catalog_of world.now.store.now) now object.now.class query.now) }
 {
     if query.is_missed(object, sight, world, now) {
         renewals.pass();
@@ -346,13 +344,12 @@ fn add_evaluated<L: Ledger, M: Ledger>(
 ) -> Result<(), AllocError>
     requires accepted { IsOfAcceptedWrites world.now.store.now }
     requires fits { FitsWorld (told_world world.now) query.now }
-    requires there { object.now.id < length world.now.store.now.objects }
-    requires class { object.now.class ≡ class_in world.now.store.now object.now.id }
+    requires object { IsObjectWithClass world.now.store.now object.now.id object.now.class }
     requires before { (old : Catalog) × ExtendsCatalog object.now.id old (catalog_of world.now.store.now) × HaveObjectsOf old query.now.query.classes query.now.columns }
     requires few { length renewals.old < QUERY_LIMIT }
     ensures added { OnOk result (AddsRenewal (told_world world.now) object.now.id object.now.class now query.now renewals.old renewals.new) }
-    ensures least { reads.old ≤ reads.new }
-    ensures most { reads.new ≤ reads.old + judged_reads (catalog_of world.now.store.now) now object.now.class query.now }
+    ensures reads { StepsAtMost reads.old reads.new
+        (judged_reads (catalog_of world.now.store.now) now object.now.class query.now) }
 {
     let renewal = query.renewal(alloc, object, world, now, reads, probes)?;
     renewals.add(renewal)?;
@@ -375,13 +372,12 @@ fn renewals_of<L: Ledger, M: Ledger>(
     requires few { length queries.now ≤ QUERY_LIMIT }
     requires accepted { IsOfAcceptedWrites world.now.store.now }
     requires fits { All (FitsWorld (told_world world.now)) queries.now }
-    requires there { id < length world.now.store.now.objects }
+    requires there { IsObjectId world.now.store.now id }
     requires class { class ≡ class_in world.now.store.now id }
     requires before { HaveObjectsBefore id (catalog_of world.now.store.now) queries.now }
     ensures prepared { IfOk result (λ renewals. ArePrepared class queries.now renewals) }
     ensures fresh { IfOk result (λ renewals. AreFreshFor (told_world world.now) id class now queries.now renewals) }
-    ensures least { reads.old ≤ reads.new }
-    ensures most { reads.new ≤ reads.old + all_judged_reads (catalog_of world.now.store.now) queries.now now class }
+    ensures reads { StepsAtMost reads.old reads.new (all_judged_reads (catalog_of world.now.store.now) queries.now now class) }
 {
     let mut renewals = Renewals::new(alloc);
     if queries.is_empty() {

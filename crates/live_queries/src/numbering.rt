@@ -1,9 +1,8 @@
 //! The rows of a relation over all variables of a query, by the numbers of their bindings.
-ghost use Rattle.std.specs.Prelude.{◌≡◌, ◌≤◌, ℕ, slice_index, IfOk};
+ghost use Rattle.std.specs.Prelude.{◌≡◌, ℕ, slice_index, IfOk};
 ghost use Rattle.tick_set.specs.Runs.{spans_have};
-ghost use Rattle.kept_rows.specs.declared.binding.TheConstants.{BINDING_LIMIT};
 ghost use Rattle.kept_rows.specs.Exact.{AreFullRows};
-ghost use Rattle.kept_rows.specs.Numbers.{counts, size_of};
+ghost use Rattle.kept_rows.specs.Numbers.{IsBindingCount, counts, size_of};
 ghost use Rattle.kept_rows.specs.Rows.{HasRoom, row_has};
 ghost use Rattle.relation.specs.Rows.{table_has};
 ghost use Rattle.live_queries.specs.Columns.{column_variables, object_at_number};
@@ -22,7 +21,7 @@ pub(crate) fn table_of(
     columns: &[Objects],
     full: Relation<'_, IntervalSet>,
 ) -> Result<KeptRows<IntervalSet>, AllocError>
-    requires size { size_of (column_variables columns.now) ≤ BINDING_LIMIT }
+    requires size { IsBindingCount (size_of (column_variables columns.now)) }
     requires over { IsOverColumns columns.now full }
     ensures room { IfOk result (λ rows. HasRoom rows (size_of (column_variables columns.now))) }
     ensures rows { IfOk result (λ rows. AreFullRows (row_has spans_have rows) (counts (column_variables columns.now))
@@ -43,7 +42,7 @@ fn filled(
     columns: &[Objects],
     full: Relation<'_, IntervalSet>,
 ) -> Result<KeptRows<IntervalSet>, AllocError>
-    requires size { size_of (column_variables columns.now) ≤ BINDING_LIMIT }
+    requires size { IsBindingCount (size_of (column_variables columns.now)) }
     requires over { IsOverColumns columns.now full }
     ensures room { IfOk result (λ rows. HasRoom rows (size_of (column_variables columns.now))) }
     ensures rows { IfOk result (λ rows. AreFullRows (row_has spans_have rows) (counts (column_variables columns.now))
@@ -60,7 +59,7 @@ fn filled(
 
 // The number of the binding of these objects, by the places of their variables. Each is one of its variable's.
 fn number_of(columns: &[Objects], objects: &Binding) -> u32
-    requires size { size_of (column_variables columns.now) ≤ BINDING_LIMIT }
+    requires size { IsBindingCount (size_of (column_variables columns.now)) }
     requires ascend { DoAscend columns.now }
     requires among { AreAmong columns.now (slice_index objects.now) }
     ensures { IsNumberOf columns.now (slice_index objects.now) result }

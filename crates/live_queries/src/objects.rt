@@ -1,9 +1,8 @@
 //! The objects of variables.
 ghost use Rattle.std.specs.Prelude.{◌≡◌, ◌<◌, ◌≤◌, ◌+◌, ◌==◌, ◌∷◌, ◌++◌, ℕ, [], length, map, slice_index, slice_index_or, true, IfOk};
 ghost use Rattle.std.specs.List.Sorted.{IsStrictlyIncreasing};
-ghost use Rattle.formula_shape.specs.declared.limits.TheConstants.{OBJECT_LIMIT};
-ghost use Rattle.kept_rows.specs.declared.binding.TheConstants.{BINDING_LIMIT};
-ghost use Rattle.kept_rows.specs.Numbers.{size_of};
+ghost use Rattle.formula_shape.specs.Sizes.{FitInQuery};
+ghost use Rattle.kept_rows.specs.Numbers.{IsBindingCount, size_of};
 ghost use Rattle.relation.specs.Key.{has_id};
 ghost use Rattle.live_queries.specs.Columns.{column_variables, object_or};
 ghost use Rattle.live_queries.specs.Prepared.{AreColumnsWith, HaveRoomFor, IsColumnWith, is_of_class};
@@ -130,7 +129,7 @@ impl Objects {
 
 /// How many numbers the bindings of these variables may have.
 pub(crate) fn width(columns: &[Objects]) -> u32
-    requires { size_of (column_variables columns.now) ≤ BINDING_LIMIT }
+    requires { IsBindingCount (size_of (column_variables columns.now)) }
     ensures value { result ≡ size_of (column_variables columns.now) }
     ensures some { 0 < result }
 {
@@ -142,7 +141,7 @@ pub(crate) fn width(columns: &[Objects]) -> u32
 
 /// The object that the binding of a number gives a variable; at a place past the last it is the one that is added.
 pub(crate) fn object_in(columns: &[Objects], number: u32, variable: u8, added: u32) -> u32
-    requires { size_of (column_variables columns.now) ≤ BINDING_LIMIT }
+    requires { IsBindingCount (size_of (column_variables columns.now)) }
     ensures { result ≡ object_or added columns.now number variable }
 {
     let Some((first, later)) = columns.split_first() else {
@@ -157,8 +156,8 @@ pub(crate) fn object_in(columns: &[Objects], number: u32, variable: u8, added: u
 
 /// The objects that the binding of a number gives some variables, in their order.
 pub(crate) fn objects_of(columns: &[Objects], number: u32, variables: &[u8], added: u32) -> Binding
-    requires size { size_of (column_variables columns.now) ≤ BINDING_LIMIT }
-    requires few { length variables.now ≤ OBJECT_LIMIT }
+    requires size { IsBindingCount (size_of (column_variables columns.now)) }
+    requires few { FitInQuery variables.now }
     ensures { result ≡ map (object_or added columns.now number) variables.now }
 {
     let mut objects = Binding::new();

@@ -1,10 +1,10 @@
 //! Relations in which one variable is one object alone: together they have each binding that holds the object.
-ghost use Rattle.std.specs.Prelude.{◌≡◌, ◌<◌, ◌≤◌, ◌+◌, ◌-◌, ◌∷◌, ◌++◌, ℕ, All, [], length, sum_by, IfOk, OnOk};
+ghost use Rattle.std.specs.Prelude.{◌≡◌, ◌<◌, ◌+◌, ◌-◌, ◌∷◌, ◌++◌, ℕ, All, [], length, sum_by, IfOk, OnOk};
 ghost use Rattle.std.specs.List.{flat_map};
 ghost use Rattle.std.specs.List.Sorted.{IsStrictlyIncreasing};
 ghost use Rattle.tick_set.specs.Ticks.{between};
-ghost use Rattle.tick_set.specs.declared.spans.TheConstants.{SPAN_LIMIT};
-ghost use Rattle.formula_shape.specs.declared.limits.TheConstants.{OBJECT_LIMIT};
+ghost use Rattle.tick_set.specs.Windows.{IsQueryWindow};
+ghost use Rattle.formula_shape.specs.Sizes.{FitInQuery};
 ghost use Rattle.formula.specs.Resolved.{IsResolved};
 ghost use Rattle.formula.specs.Tree.{resolved_view};
 ghost use Rattle.meaning.specs.Fits.{FitsItsClasses};
@@ -14,6 +14,7 @@ ghost use Rattle.relation.specs.Frames.{domain_size};
 ghost use Rattle.atoms.specs.Asked.{told_world};
 ghost use Rattle.answers.specs.Objects.{AreOfItsClasses, IsOfAcceptedWrites};
 ghost use Rattle.live_queries.specs.Written.{ArePartsOf, domains_for, ids_for, single_for};
+ghost use Rattle.steps.specs.Counting.{StepsAtMost};
 
 use crate::objects::is_of_class;
 use answers::{StoredWorld, evaluate};
@@ -49,7 +50,7 @@ pub(crate) fn singles(
     class: ClassNo,
     id: u32,
 ) -> Result<Vec<Single>, AllocError>
-    requires { length classes.now ≤ OBJECT_LIMIT }
+    requires { FitInQuery classes.now }
     ensures { IfOk result (λ singles. singles.items
         ≡ flat_map (single_for (catalog_of store.now) classes.now class id) (between 0 (length classes.now))) }
 {
@@ -70,7 +71,7 @@ fn add_single(
     variable: u8,
     singles: &mut Vec<Single>,
 ) -> Result<(), AllocError>
-    requires { length classes.now ≤ OBJECT_LIMIT }
+    requires { FitInQuery classes.now }
     ensures { OnOk result (singles.new.items ≡ singles.old.items ++ single_for (catalog_of store.now) classes.now class id variable) }
 {
     if !is_of_class(classes, variable, class) {
@@ -89,7 +90,7 @@ fn domains_for(
     id: u32,
     variable: u8,
 ) -> Result<Domains, AllocError>
-    requires { length classes.now ≤ OBJECT_LIMIT }
+    requires { FitInQuery classes.now }
     ensures { IfOk result (λ d. d ≡ domains_for (catalog_of store.now) classes.now id variable) }
 {
     let alone = [id];
@@ -132,11 +133,10 @@ pub(crate) fn parts_of<'d, L: Ledger, M: Ledger>(
     requires resolved { IsResolved (resolved_view query.now) }
     requires fits { FitsItsClasses (told_world world.now) (resolved_view query.now) }
     requires domains { All (λ s. AreOfItsClasses (catalog_of world.now.store.now) (resolved_view query.now) s.domains) singles.now }
-    requires length { w.hi - w.lo ≤ SPAN_LIMIT }
+    requires length { IsQueryWindow w }
     ensures parts { IfOk result (λ parts. ArePartsOf (told_world world.now) (resolved_view query.now) w.lo w.hi singles.now parts.items) }
-    ensures least { reads.old ≤ reads.new }
-    ensures most { reads.new ≤ reads.old
-        + sum_by (λ s. query_reads (domain_size s.domains) (w.hi + 1 - w.lo) (resolved_view query.now)) singles.now }
+    ensures reads { StepsAtMost reads.old reads.new
+        (sum_by (λ s. query_reads (domain_size s.domains) (w.hi + 1 - w.lo) (resolved_view query.now)) singles.now) }
 {
     let mut parts = Vec::with_capacity(alloc, singles.len())?;
     let mut rest = singles;

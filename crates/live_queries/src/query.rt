@@ -4,7 +4,8 @@ ghost use Rattle.std.specs.Str.{bytes_eq};
 ghost use Rattle.meaning.specs.Registered.{first_tick};
 ghost use Rattle.kept_rows.specs.declared.binding.TheConstants.{BINDING_LIMIT};
 ghost use Rattle.tick_set.specs.Runs.{spans_have};
-ghost use Rattle.tick_set.specs.declared.spans.TheConstants.{LAST_TICK, SPAN_LIMIT};
+ghost use Rattle.tick_set.specs.declared.spans.TheConstants.{SPAN_LIMIT};
+ghost use Rattle.tick_set.specs.Windows.{AreQueryEnds};
 ghost use Rattle.history.specs.Catalog.{Catalog, most_bindings};
 ghost use Rattle.formula.specs.declared.kind.QueryKind.TheVariants.{Keep, Watch};
 ghost use Rattle.formula.specs.Reach.{counted};
@@ -18,8 +19,8 @@ ghost use Rattle.answers.specs.Objects.{IsOfAcceptedWrites};
 ghost use Rattle.kept_rows.specs.Changes.{AreReady, AreRising, rows_after};
 ghost use Rattle.kept_rows.specs.Listing.{lines_upto, passing_of};
 ghost use Rattle.kept_rows.specs.Moves.{move_of};
-ghost use Rattle.kept_rows.specs.Numbers.{size_of};
-ghost use Rattle.live_queries.specs.Asked.{ExtendsCatalog, FitsWorld, class_in};
+ghost use Rattle.kept_rows.specs.Numbers.{IsBindingCount, size_of};
+ghost use Rattle.live_queries.specs.Asked.{ExtendsCatalog, FitsWorld, IsObjectWithClass};
 ghost use Rattle.live_queries.specs.Columns.{HaveObjectsOf, column_variables};
 ghost use Rattle.live_queries.specs.Current.{row_at};
 ghost use Rattle.live_queries.specs.Effort.{judged_reads};
@@ -31,6 +32,7 @@ ghost use Rattle.live_queries.specs.Renewed.{judged_from, judged_tick};
 ghost use Rattle.live_queries.specs.Untouched.{TouchesQuery, or_untouched, untouched};
 ghost use Rattle.live_queries.specs.Written.{HaveObjectsWith};
 ghost use Rattle.live_queries.specs.Told.{answer_of, info_of, key_of, listed_lines, move as told_move, moves_of, passing_change as told_passing, passings_of, row_of_line, target_count, target_times, told_info};
+ghost use Rattle.steps.specs.Counting.{StepsAtMost};
 
 use crate::columns::{class_count, columns_of, has_class, lack};
 use crate::evaluating::{new_rows, rows_between};
@@ -108,14 +110,11 @@ impl LiveQuery {
         requires resolved { IsResolved (resolved_view query) }
         requires fits { FitsItsClasses (told_world world.now) (resolved_view query) }
         requires size { most_bindings (catalog_of world.now.store.now).classes query.classes ≤ BINDING_LIMIT }
-        requires window { info.now.entry ≤ info.now.expiry }
-        requires last { info.now.expiry ≤ LAST_TICK }
-        requires length { info.now.expiry - info.now.entry ≤ SPAN_LIMIT }
+        requires ends { AreQueryEnds info.now.entry info.now.expiry }
         ensures registered { IfOk result (IsRegistered (told_world world.now) now (told_info info.now) (resolved_view query)) }
         ensures kept { IfOk result IsKeptQuery }
-        ensures least { reads.old ≤ reads.new }
-        ensures most { reads.new ≤ reads.old
-            + query_reads (sizes_of (catalog_of world.now.store.now) (resolved_view query)) (info.now.expiry + 1 - info.now.entry) (resolved_view query) }
+        ensures reads { StepsAtMost reads.old reads.new
+            (query_reads (sizes_of (catalog_of world.now.store.now) (resolved_view query)) (info.now.expiry + 1 - info.now.entry) (resolved_view query)) }
     {
         fitting_queries_can_be_asked();
         let columns = columns_of(alloc, &query, world.store)?;
@@ -159,14 +158,13 @@ impl LiveQuery {
     ) -> Result<Option<Renewal>, AllocError>
         requires accepted { IsOfAcceptedWrites world.now.store.now }
         requires fits { FitsWorld (told_world world.now) self.now }
-        requires there { object.now.id < length world.now.store.now.objects }
-        requires class { object.now.class ≡ class_in world.now.store.now object.now.id }
+        requires object { IsObjectWithClass world.now.store.now object.now.id object.now.class }
         requires before { (old : Catalog) × ExtendsCatalog object.now.id old (catalog_of world.now.store.now) × HaveObjectsOf old self.now.query.classes self.now.columns }
         ensures ready { IfOk result (λ r. IsReadyFor object.now.class self.now (or_untouched r)) }
         ensures fresh { IfOk result (λ r. IsFreshFor (told_world world.now) object.now.id object.now.class now self.now (or_untouched r)) }
         ensures touched { IfOk result (λ r. IfSome r (TouchesQuery object.now.class now self.now)) }
-        ensures least { reads.old ≤ reads.new }
-        ensures most { reads.new ≤ reads.old + judged_reads (catalog_of world.now.store.now) now object.now.class self.now }
+        ensures reads { StepsAtMost reads.old reads.new
+            (judged_reads (catalog_of world.now.store.now) now object.now.class self.now) }
     {
         let classes = self.query.classes.items();
         if !has_class(classes, object.class) {
@@ -246,15 +244,14 @@ impl LiveQuery {
     ) -> Result<Changes<IntervalSet>, AllocError>
         requires accepted { IsOfAcceptedWrites world.now.store.now }
         requires fits { FitsItsClasses (told_world world.now) self.now.query }
-        requires there { object.now.id < length world.now.store.now.objects }
-        requires class { object.now.class ≡ class_in world.now.store.now object.now.id }
+        requires object { IsObjectWithClass world.now.store.now object.now.id object.now.class }
         requires room { grows ≡ true → HaveRoomFor object.now.class self.now.query.classes self.now.columns }
         requires objects { HaveObjectsWith (catalog_of world.now.store.now) grows object.now.class self.now.query.classes object.now.id self.now.columns }
         ensures ready { IfOk result (AreReady spans_have self.now.pages) }
         ensures rising { IfOk result (AreRising (size_of (column_variables self.now.columns))) }
         ensures rows { IfOk result (AreNewRows (told_world world.now) grows object.now.id object.now.class now self.now) }
-        ensures least { reads.old ≤ reads.new }
-        ensures most { reads.new ≤ reads.old + judged_reads (catalog_of world.now.store.now) now object.now.class self.now }
+        ensures reads { StepsAtMost reads.old reads.new
+            (judged_reads (catalog_of world.now.store.now) now object.now.class self.now) }
     {
         if self.expiry < now {
             return Ok(Changes::new(alloc));
@@ -579,7 +576,7 @@ fn kept_before(kind: QueryKind, judged: u32) -> u32
 // How the numbers of the bindings of columns are shared among the first so many, which are the targets.
 fn targets_of(columns: &[Objects], count: usize) -> Targets
     requires few { count ≤ length columns.now }
-    requires size { size_of (column_variables columns.now) ≤ BINDING_LIMIT }
+    requires size { IsBindingCount (size_of (column_variables columns.now)) }
     ensures count { result.count ≡ size_of (column_variables (take count columns.now)) }
     ensures width { result.width ≡ size_of (column_variables (drop count columns.now)) }
 {

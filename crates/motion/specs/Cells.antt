@@ -1,5 +1,5 @@
 -- The effect of one write on the cells of an object.
-use Rattle.std.specs.Prelude.{ℕ, ℤ, zero, suc, pos, ◌≤◌, Bool, false, unsigned_abs, All, Option, None, Some, List, [], ◌∷◌, ◌++◌, codes, if◌then◌else◌}
+use Rattle.std.specs.Prelude.{ℕ, ℤ, zero, suc, pos, ◌≤◌, Bool, false, unsigned_abs, All, Option, None, Some, List, [], ◌∷◌, ◌++◌, codes, if◌then◌else◌, ◌<◌, length}
 use Rattle.std.specs.List.{fold}
 use Rattle.std.specs.Option.{option_map}
 use Rattle.std.specs.Str.{bytes_eq}
@@ -14,6 +14,7 @@ use Rattle.motion.specs.declared.cell.Place.{Place}
 use Rattle.motion.specs.declared.cell.AttrKind.TheVariants as kinds
 use Rattle.motion.specs.declared.cell.Cell.TheVariants as cells
 use Rattle.motion.specs.declared.cell.Given.TheVariants as givens
+use Rattle.motion.specs.declared.limits.TheConstants.{ATTRIBUTE_LIMIT, CAPACITY_LIMIT}
 
 -- the cell of a kind that an insert at tick s begins with: 0, the empty text, or at rest at 0
 abbrev pub fresh : ℕ → AttrKind → Cell
@@ -111,3 +112,12 @@ IsGiven (givens.Both n f) = unsigned_abs n ≤ READ_LIMIT
 -- changes, each by the index of its cell, have such numbers alone
 abbrev pub AreChanges : List (ℕ × Given) → Type 0
 AreChanges changes = All (λ change. IsGiven change.1) changes
+
+-- a class may have the capacity
+pub record IsCapacity (capacity : ℕ) : Type 0 where
+  pub some : 0 < capacity
+  pub limit : capacity ≤ CAPACITY_LIMIT
+
+-- a class may have so many attributes
+abbrev pub AreFewAttributes : {A : Type 0} → List A → Type 0
+AreFewAttributes attributes = length attributes ≤ ATTRIBUTE_LIMIT

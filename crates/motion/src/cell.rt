@@ -1,13 +1,12 @@
 //! The cells of an object's state, and what a command gives for them.
-ghost use Rattle.std.specs.Prelude.{◌≡◌, ◌≤◌, pos, []};
+ghost use Rattle.std.specs.Prelude.{◌≡◌, pos, []};
 ghost use Rattle.motion.specs.Function.{level};
-ghost use Rattle.tick_set.specs.declared.spans.TheConstants.{LAST_TICK};
+ghost use Rattle.tick_set.specs.Ticks.{IsTick};
 ghost use Rattle.motion.specs.Cells.{fresh, written, IsCellAt, IsGiven};
 
 use crate::legs::Legs;
 use crate::vector::Vector;
 use fixed_point::{Fix, Point, Slope, Word};
-use tick_set::LAST_TICK;
 
 /// The kind of an attribute.
 #[derive(Clone, Copy, Debug, PartialEq, Eq)]
@@ -31,7 +30,7 @@ pub enum Cell {
 impl Cell {
     /// The cell of a kind that an insert at tick `now` begins with: 0, the empty text, or at rest at 0.
     pub fn fresh(kind: AttrKind, now: u32) -> Cell
-        requires { now ≤ LAST_TICK }
+        requires { IsTick now }
         ensures value { result ≡ fresh now kind }
         ensures written { IsCellAt result now }
     {
@@ -44,7 +43,7 @@ impl Cell {
 
     /// Writes at tick `now`, which isn't before its last write. What doesn't fit its kind leaves it as it is.
     pub fn write(&mut self, now: u32, given: &Given)
-        requires tick { now ≤ LAST_TICK }
+        requires tick { IsTick now }
         requires after { IsCellAt self.old now }
         requires limits { IsGiven given.now }
         ensures value { self.new ≡ written now self.old given.now }

@@ -1,11 +1,10 @@
 //! Writes to the cells of an epoch.
-ghost use Rattle.std.specs.Prelude.{◌≡◌, ◌≤◌, IfOk};
-ghost use Rattle.tick_set.specs.declared.spans.TheConstants.{LAST_TICK};
+ghost use Rattle.std.specs.Prelude.{◌≡◌, IfOk};
+ghost use Rattle.tick_set.specs.Ticks.{IsTick};
 ghost use Rattle.motion.specs.Cells.{AreCellsAt, AreChanges, IsGiven, changed, set_at};
 
 use crate::cell::{Cell, Given};
 use std::alloc::{AllocError, Global};
-use tick_set::LAST_TICK;
 
 /// A copy of these cells after writes at tick `now`, in their order.
 pub fn changed(
@@ -14,7 +13,7 @@ pub fn changed(
     cells: &[Cell],
     changes: &[(usize, Given)],
 ) -> Result<Vec<Cell>, AllocError>
-    requires tick { now ≤ LAST_TICK }
+    requires tick { IsTick now }
     requires after { AreCellsAt cells.now now }
     requires given { AreChanges changes.now }
     ensures cells { IfOk result (λ v. v.items ≡ changed now changes.now cells.now) }
@@ -29,7 +28,7 @@ pub fn changed(
 /// index. What doesn't fit the kind of its cell, and an index past the cells, leaves them. It takes no
 /// memory.
 pub fn write_cells(cells: &mut [Cell], now: u32, changes: &[(usize, Given)])
-    requires tick { now ≤ LAST_TICK }
+    requires tick { IsTick now }
     requires after { AreCellsAt cells.old now }
     requires given { AreChanges changes.now }
     ensures cells { cells.new ≡ changed now changes.now cells.old }
@@ -44,7 +43,7 @@ pub fn write_cells(cells: &mut [Cell], now: u32, changes: &[(usize, Given)])
 
 /// Writes at tick `now` to the cell of an index; an index past the cells leaves all.
 fn set(cells: &mut [Cell], now: u32, index: usize, given: &Given)
-    requires tick { now ≤ LAST_TICK }
+    requires tick { IsTick now }
     requires after { AreCellsAt cells.old now }
     requires given { IsGiven given.now }
     ensures cells { cells.new ≡ set_at now cells.old index given.now }

@@ -1,7 +1,7 @@
 //! Epochs: what an object has from one of its writes to the next.
 ghost use Rattle.std.specs.Prelude.{◌≡◌, ◌≤◌, IsTrue, ◌↔◌, IsSome, IfOk, IfSome, slice_get, None, Some};
 ghost use Rattle.std.specs.Option.{option_copied, option_map};
-ghost use Rattle.tick_set.specs.declared.spans.TheConstants.{LAST_TICK};
+ghost use Rattle.tick_set.specs.Ticks.{IsTick};
 ghost use Rattle.motion.specs.Cells.{AreCellsAt, AreChanges, IsCellAt, changed};
 ghost use Rattle.motion.specs.Timeline.{Epoch, cells_of, IsEpoch};
 
@@ -9,7 +9,6 @@ use crate::cell::{Cell, Given};
 use crate::change::changed;
 use std::alloc::{AllocError, Global};
 use std::marker::Model;
-use tick_set::LAST_TICK;
 
 /// What an object has from a tick on, until it is written again: one cell for each of its attributes,
 /// or nothing where it is absent. It is written once for all writes of its first tick.
@@ -33,7 +32,7 @@ impl Model for Epoch {
 impl Epoch {
     /// The epoch of a present object. Its cells were written by tick `from`.
     pub(crate) fn of(from: u32, cells: Vec<Cell>) -> Epoch
-        requires tick { from ≤ LAST_TICK }
+        requires tick { IsTick from }
         requires written { AreCellsAt cells.items from }
         ensures { result ≡ record { from = from; cells = Some cells.items } }
     {
@@ -46,7 +45,7 @@ impl Epoch {
 
     /// The epoch of an absent object. It takes no memory.
     pub(crate) fn absent(alloc: Global, from: u32) -> Epoch
-        requires { from ≤ LAST_TICK }
+        requires { IsTick from }
         ensures { result ≡ record { from = from; cells = None } }
     {
         Epoch {
@@ -99,7 +98,7 @@ impl Epoch {
         changes: &[(usize, Given)],
     ) -> Result<Epoch, AllocError>
         requires after { self.now.from ≤ now }
-        requires tick { now ≤ LAST_TICK }
+        requires tick { IsTick now }
         requires given { AreChanges changes.now }
         ensures { IfOk result (λ e. e ≡ record { from = now; cells = option_map (changed now changes.now) self.now.cells }) }
     {

@@ -2,13 +2,13 @@
 ghost use Rattle.std.specs.Prelude.{◌≡◌, ℕ, pos, ◌*ℤ◌, ◌+◌, ◌*◌, ◌<◌, ◌≤◌, unsigned_abs, false, [], length, drop, replicate, IsTrue, IfNone, IfSome, SomeIff};
 ghost use Rattle.std.specs.List.{list_all};
 ghost use Rattle.fixed_point.specs.declared.number.TheConstants.{SLOPE_LIMIT};
-ghost use Rattle.tick_set.specs.declared.spans.TheConstants.{LAST_TICK};
+ghost use Rattle.fixed_point.specs.Sizes.{IsSlope};
+ghost use Rattle.tick_set.specs.Ticks.{IsTick};
 ghost use Rattle.motion.specs.Function.{are_firsts, is_length_of, legs_rise, legs_rest, rise, slope, rest, leg_ends, IsNextTurn, shortened, IsPassed};
 ghost use Rattle.motion.specs.Padding.{padded_legs};
 
 use fixed_point::Slope;
 use std::marker::Model;
-use tick_set::LAST_TICK;
 
 /// The most legs before the last one.
 pub const MOST_FIRSTS: usize = 7;
@@ -96,7 +96,7 @@ impl Legs {
 
     /// How far the value has risen `ticks` ticks after the function began, in thousandths.
     pub fn rise(&self, ticks: u32) -> i64
-        requires { ticks ≤ LAST_TICK }
+        requires { IsTick ticks }
         ensures value { result ≡ rise self.now ticks }
         ensures near { unsigned_abs result ≤ SLOPE_LIMIT * ticks }
     {
@@ -118,7 +118,7 @@ impl Legs {
     /// The first number of ticks past `ticks` after which a leg ends and the next one begins. None where
     /// the last leg is in force after `ticks` ticks.
     pub fn next_end(&self, ticks: u32) -> Option<u32>
-        requires { ticks ≤ LAST_TICK }
+        requires { IsTick ticks }
         ensures none { IfNone result ((u : ℕ) → ticks < u → leg_ends self.now.firsts u ≡ false) }
         ensures some { IfSome result (λ end. IsNextTurn (leg_ends self.now.firsts) ticks end) }
         ensures near { IfSome result (λ end. end ≤ ticks + LONGEST_LEG) }
@@ -180,7 +180,7 @@ fn shorten(legs: &mut [(Slope, u32)], passed: u32)
 /// How far a slope rises in `ticks` ticks, in thousandths.
 #[inline]
 fn climb(slope: Slope, ticks: u32) -> i64
-    requires { ticks ≤ LAST_TICK }
+    requires { IsTick ticks }
     ensures value { result ≡ slope *ℤ pos ticks }
     ensures near { unsigned_abs result ≤ SLOPE_LIMIT * ticks }
 {
@@ -189,16 +189,16 @@ fn climb(slope: Slope, ticks: u32) -> i64
 
 #[inline]
 fn product(slope: Slope, ticks: u32) -> i64
-    requires { ticks ≤ LAST_TICK }
+    requires { IsTick ticks }
     ensures value { result ≡ slope *ℤ pos ticks }
-    ensures in_range { unsigned_abs slope ≤ SLOPE_LIMIT }
+    ensures in_range { IsSlope slope }
 {
     slope.raw() * i64::from(ticks)
 }
 
 /// How far such legs rise in `ticks` ticks, in thousandths.
 fn legs_rise(firsts: &[(Slope, u32)], last: Slope, ticks: u32) -> i64
-    requires { ticks ≤ LAST_TICK }
+    requires { IsTick ticks }
     ensures value { result ≡ legs_rise firsts.now last ticks }
     ensures near { unsigned_abs result ≤ SLOPE_LIMIT * ticks }
 {

@@ -2,7 +2,7 @@
 ghost use Rattle.std.specs.Prelude.{◌≡◌, ℕ, ◌≤◌, ◌<◌, ◌+◌, ◌⊎◌, false, All, IfOk, IfSome, length, slice_get};
 ghost use Rattle.std.specs.List.{list_any};
 ghost use Rattle.std.specs.Option.{option_copied, option_map_or};
-ghost use Rattle.tick_set.specs.declared.spans.TheConstants.{LAST_TICK};
+ghost use Rattle.tick_set.specs.Ticks.{IsTick};
 ghost use Rattle.motion.specs.Cells.{AreCellsAt, IsCellAt, cell_turns};
 ghost use Rattle.motion.specs.Timeline.{Epoch, AreBegunUpTo, IsRising};
 ghost use Rattle.motion.specs.Pieces.{legs_end, ArePieces, ArePiecesFrom, IsFirstOrEnd, IsPieceFor, IsSteadyPiece, IsSteadyFor};
@@ -11,7 +11,7 @@ use crate::asked::Asked;
 use crate::cell::Cell;
 use crate::epoch::Epoch;
 use std::alloc::{AllocError, Global};
-use tick_set::{LAST_TICK, Span, Window};
+use tick_set::{Span, Window};
 
 /// Ticks in which one epoch is in force, by its index in the timeline counted from 0, and in which each
 /// of its dynamic attributes moves by one slope.
@@ -51,7 +51,7 @@ fn pieces_from(
     requires rising { IsRising epochs.now }
     requires some { 0 < length epochs.now }
     requires begun { IfSome (slice_get epochs.now 0) (λ p. p.from ≤ start) }
-    requires tick { last ≤ LAST_TICK }
+    requires tick { IsTick last }
     ensures pieces { IfOk result (λ v. ArePiecesFrom epochs.now start last v.items) }
     ensures steady { IfOk result (λ v. All (IsSteadyPiece epochs.now) v.items) }
 {
@@ -74,7 +74,7 @@ pub fn piece_for(asked: Asked, epochs: &[Epoch], count: usize, at: u32, last: u3
     requires some { 0 < count }
     requires begun { AreBegunUpTo epochs.now at count }
     requires order { at ≤ last }
-    requires tick { last ≤ LAST_TICK }
+    requires tick { IsTick last }
     ensures piece { IsPieceFor asked.entry epochs.now at last result }
     ensures steady { IsSteadyFor asked.entry epochs.now result }
     ensures begun { AreBegunUpTo epochs.now result.span.hi count }
@@ -92,7 +92,7 @@ pub fn piece_for(asked: Asked, epochs: &[Epoch], count: usize, at: u32, last: u3
 
 /// The tick at which the epoch of an index begins, but at most one past `last`.
 fn next_begin(epochs: &[Epoch], index: usize, last: u32) -> u32
-    requires { last ≤ LAST_TICK }
+    requires { IsTick last }
     ensures within { result ≤ last + 1 }
     ensures before { IfSome (slice_get epochs.now index) (λ p. result ≤ p.from) }
     ensures reached { result ≡ last + 1
@@ -108,7 +108,7 @@ fn next_begin(epochs: &[Epoch], index: usize, last: u32) -> u32
 pub fn begun_next(epochs: &[Epoch], count: usize, t: u32) -> usize
     requires rising { IsRising epochs.now }
     requires begun { AreBegunUpTo epochs.now t count }
-    requires tick { t ≤ LAST_TICK }
+    requires tick { IsTick t }
     ensures begun { AreBegunUpTo epochs.now (t + 1) result }
     ensures more { count ≤ result }
 {
@@ -121,7 +121,7 @@ pub fn begun_next(epochs: &[Epoch], count: usize, t: u32) -> usize
 /// The first tick past `at` and before `end` at which a leg of an asked cell ends, else `end`.
 fn first_end(asked: Asked, cells: &[Cell], at: u32, end: u32) -> u32
     requires written { AreCellsAt cells.now at }
-    requires tick { at ≤ LAST_TICK }
+    requires tick { IsTick at }
     requires order { at < end }
     ensures { IsFirstOrEnd (λ t. legs_end asked.entry t cells.now) at end result }
 {
@@ -134,7 +134,7 @@ fn first_end(asked: Asked, cells: &[Cell], at: u32, end: u32) -> u32
 /// The same of the cells of these indexes.
 fn first_turn_among(indexes: &[u8], cells: &[Cell], at: u32, end: u32) -> u32
     requires written { AreCellsAt cells.now at }
-    requires tick { at ≤ LAST_TICK }
+    requires tick { IsTick at }
     requires order { at < end }
     ensures { IsFirstOrEnd
         (λ t. list_any (λ index. option_map_or (cell_turns t) (slice_get cells.now index) false) indexes.now) at end result }
@@ -157,7 +157,7 @@ fn cell_at(cells: &[Cell], index: u8) -> Option<&Cell>
 /// The first tick past `at` and before `end` at which a leg of this cell ends, if there is one, else `end`.
 fn turn_if_any(cell: Option<&Cell>, at: u32, end: u32) -> u32
     requires written { IfSome cell (λ c. IsCellAt c.now at) }
-    requires tick { at ≤ LAST_TICK }
+    requires tick { IsTick at }
     requires order { at < end }
     ensures { IsFirstOrEnd (λ t. option_map_or (cell_turns t) (option_copied cell.entry) false) at end result }
 {
@@ -170,7 +170,7 @@ fn turn_if_any(cell: Option<&Cell>, at: u32, end: u32) -> u32
 /// The first tick past `at` and before `end` at which a leg of one of these cells ends, else `end`.
 fn first_turn(cells: &[Cell], at: u32, end: u32) -> u32
     requires written { AreCellsAt cells.now at }
-    requires tick { at ≤ LAST_TICK }
+    requires tick { IsTick at }
     requires order { at < end }
     ensures { IsFirstOrEnd (λ t. list_any (cell_turns t) cells.now) at end result }
 {
@@ -184,7 +184,7 @@ fn first_turn(cells: &[Cell], at: u32, end: u32) -> u32
 /// The first tick past `at` and before `end` at which a leg of this cell ends, else `end`.
 fn turn(cell: &Cell, at: u32, end: u32) -> u32
     requires written { IsCellAt cell.now at }
-    requires tick { at ≤ LAST_TICK }
+    requires tick { IsTick at }
     requires order { at < end }
     ensures { IsFirstOrEnd (λ t. cell_turns t cell.now) at end result }
 {

@@ -1,13 +1,12 @@
 //! The least and the greatest value of a dynamic attribute over ticks.
 ghost use Rattle.std.specs.Prelude.{◌≡◌, ◌≤◌, ◌<◌};
-ghost use Rattle.tick_set.specs.declared.spans.TheConstants.{LAST_TICK};
+ghost use Rattle.tick_set.specs.Ticks.{IsTick};
 ghost use Rattle.motion.specs.Dynamic.{turns_at};
 ghost use Rattle.motion.specs.Pieces.{IsFirstOrEnd};
 ghost use Rattle.motion.specs.Range.{IsRange};
 
 use crate::vector::Vector;
 use fixed_point::Fix;
-use tick_set::LAST_TICK;
 
 impl Vector {
     /// The least and the greatest value over the ticks from `lo`, which isn't before the update, to `hi`, in
@@ -15,7 +14,7 @@ impl Vector {
     pub fn range(&self, lo: u32, hi: u32) -> (Fix, Fix)
         requires after { self.now.updatetime ≤ lo }
         requires order { lo ≤ hi }
-        requires tick { hi ≤ LAST_TICK }
+        requires tick { IsTick hi }
         ensures { IsRange self.now lo hi result.0 result.1 }
     {
         let first = self.at(lo);
@@ -34,7 +33,7 @@ impl Vector {
     /// The first tick past `at`, which isn't before the update, and before `end` at which a leg ends, else `end`.
     pub(crate) fn turn_before(&self, at: u32, end: u32) -> u32
         requires after { self.now.updatetime ≤ at }
-        requires tick { at ≤ LAST_TICK }
+        requires tick { IsTick at }
         requires order { at < end }
         ensures { IsFirstOrEnd (turns_at self.now) at end result }
     {

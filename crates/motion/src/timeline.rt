@@ -2,8 +2,7 @@
 ghost use Rattle.std.specs.Prelude.{◌≡◌, ◌≤◌, ◌<◌, ◌+◌, ◌-◌, ◌&&◌, ℕ, [], ◌∷◌, ◌++◌, IfSome, IfNone, IsNone, slice_set, length, All, Some, None, IsTrue, ◌↔◌, IfOk, OnOk, OnErr, slice_get, is_some};
 ghost use Rattle.std.specs.List.{list_any};
 ghost use Rattle.std.specs.Option.{option_copied, option_map};
-ghost use Rattle.tick_set.specs.declared.spans.TheConstants.{LAST_TICK};
-ghost use Rattle.tick_set.specs.Ticks.{within};
+ghost use Rattle.tick_set.specs.Ticks.{IsTick, within};
 ghost use Rattle.motion.specs.Cells.{AreCellsAt, AreChanges, changed};
 ghost use Rattle.motion.specs.Timeline.{Epoch, put, epoch_at, state_at, restored, AreBegunBy, AreBegunUpTo, IsRising, IsEpoch, StandsAsLeft, TakesBack};
 ghost use Rattle.motion.specs.Straight.{IsStraightOf, tells_line};
@@ -17,7 +16,7 @@ use crate::straight::{Straight, straight_of};
 use std::alloc::{AllocError, Global};
 use std::marker::Model;
 use std::mem;
-use tick_set::{LAST_TICK, Window};
+use tick_set::Window;
 
 /// The epochs of one object, one for each tick at which it was written. They ascend, and the recorded
 /// past stays: a write changes no state before its tick.
@@ -55,7 +54,7 @@ impl Timeline {
     /// the epoch that it replaces, one that began at `now`, and None where the new one was appended. After
     /// an error the timeline is as before.
     pub fn begin(&mut self, now: u32, cells: &[Cell]) -> Result<Option<Epoch>, AllocError>
-        requires tick { now ≤ LAST_TICK }
+        requires tick { IsTick now }
         requires after { AreBegunBy self.old now }
         requires written { AreCellsAt cells.now now }
         ensures ok { OnOk result (self.new ≡ put self.old (record { from = now; cells = Some cells.now })) }
@@ -70,7 +69,7 @@ impl Timeline {
 
     /// As `begin`, of cells that are handed over and not copied.
     pub fn begin_with(&mut self, now: u32, cells: Vec<Cell>) -> Result<Option<Epoch>, AllocError>
-        requires tick { now ≤ LAST_TICK }
+        requires tick { IsTick now }
         requires after { AreBegunBy self.old now }
         requires written { AreCellsAt cells.items now }
         ensures ok { OnOk result (self.new ≡ put self.old (record { from = now; cells = Some cells.items })) }
@@ -89,7 +88,7 @@ impl Timeline {
         now: u32,
         changes: &[(usize, Given)],
     ) -> Result<Option<Epoch>, AllocError>
-        requires tick { now ≤ LAST_TICK }
+        requires tick { IsTick now }
         requires after { AreBegunBy self.old now }
         requires given { AreChanges changes.now }
         ensures ok { OnOk result
@@ -106,7 +105,7 @@ impl Timeline {
 
     /// The object is absent from tick `now` on, which isn't before its last epoch.
     pub fn vanish(&mut self, now: u32) -> Result<Option<Epoch>, AllocError>
-        requires tick { now ≤ LAST_TICK }
+        requires tick { IsTick now }
         requires after { AreBegunBy self.old now }
         ensures ok { OnOk result (self.new ≡ put self.old (record { from = now; cells = None })) }
         ensures appended { IfOk result (λ r. IsNone r
@@ -219,7 +218,7 @@ impl Timeline {
     /// epoch. It takes no memory.
     pub fn piece_from(&self, at: u32, last: u32) -> Option<Piece>
         requires order { at ≤ last }
-        requires tick { last ≤ LAST_TICK }
+        requires tick { IsTick last }
         ensures piece { IfSome result (IsPiece self.now at last) }
         ensures steady { IfSome result (IsSteadyPiece self.now) }
         ensures none { IfNone result (epoch_at self.now at ≡ None) }
@@ -239,7 +238,7 @@ impl Timeline {
     /// How many epochs begin by the tick past `t`, where as many as `count` begin by `t`: one epoch is looked at.
     pub fn begun_next(&self, count: usize, t: u32) -> usize
         requires begun { AreBegunUpTo self.now t count }
-        requires tick { t ≤ LAST_TICK }
+        requires tick { IsTick t }
         ensures { AreBegunUpTo self.now (t + 1) result }
     {
         begun_next(&self.epochs, count, t)
@@ -252,7 +251,7 @@ impl Timeline {
     pub fn piece_for(&self, asked: Asked, count: usize, at: u32, last: u32) -> Option<Piece>
         requires begun { AreBegunUpTo self.now at count }
         requires order { at ≤ last }
-        requires tick { last ≤ LAST_TICK }
+        requires tick { IsTick last }
         ensures piece { IfSome result (IsPieceFor asked.entry self.now at last) }
         ensures steady { IfSome result (IsSteadyFor asked.entry self.now) }
         ensures begun { IfSome result (λ piece. AreBegunUpTo self.now piece.span.hi count) }
@@ -275,7 +274,7 @@ fn epoch_after(
     now: u32,
     changes: &[(usize, Given)],
 ) -> Result<Epoch, AllocError>
-    requires tick { now ≤ LAST_TICK }
+    requires tick { IsTick now }
     requires after { AreBegunBy epochs.now now }
     requires given { AreChanges changes.now }
     ensures { IfOk result

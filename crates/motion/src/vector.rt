@@ -1,14 +1,14 @@
 //! Dynamic attributes.
 ghost use Rattle.std.specs.Prelude.{◌≡◌, ℕ, ◌<◌, ◌≤◌, ◌+◌, ◌*◌, false, IfNone, IfSome, unsigned_abs};
 ghost use Rattle.fixed_point.specs.declared.number.TheConstants.{READ_LIMIT, SLOPE_LIMIT};
-ghost use Rattle.tick_set.specs.declared.spans.TheConstants.{LAST_TICK};
+ghost use Rattle.fixed_point.specs.Sizes.{IsReadable};
+ghost use Rattle.tick_set.specs.Ticks.{IsTick};
 ghost use Rattle.motion.specs.Dynamic.{begun, moved, turned, value_at, slope_at, turns_at, IsReachableValue};
 ghost use Rattle.motion.specs.Function.{IsNextTurn};
 
 use crate::legs::Legs;
 use fixed_point::{Fix, Slope};
 use std::marker::Model;
-use tick_set::LAST_TICK;
 
 /// A dynamic attribute: a value in thousandths, the tick of its last update, and its function from
 /// that tick on. The value is within 10^12 + 10^6 · updatetime of 0, since a given value is within
@@ -73,7 +73,7 @@ impl Vector {
     /// The implied value at tick `t`, which isn't before the update, in thousandths.
     pub fn at(&self, t: u32) -> Fix
         requires after { self.now.updatetime ≤ t }
-        requires tick { t ≤ LAST_TICK }
+        requires tick { IsTick t }
         ensures value { result ≡ value_at self.now t }
         ensures near { unsigned_abs result ≤ READ_LIMIT + SLOPE_LIMIT * t }
     {
@@ -93,7 +93,7 @@ impl Vector {
     /// force at `t`, which isn't before the update.
     pub fn next_end(&self, t: u32) -> Option<u32>
         requires after { self.now.updatetime ≤ t }
-        requires tick { t ≤ LAST_TICK }
+        requires tick { IsTick t }
         ensures none { IfNone result ((u : ℕ) → t < u → turns_at self.now u ≡ false) }
         ensures some { IfSome result (λ end. IsNextTurn (turns_at self.now) t end) }
     {
@@ -105,8 +105,8 @@ impl Vector {
     /// value is within 10^12 thousandths of 0.
     pub fn moved(&self, now: u32, value: Fix) -> Vector
         requires after { self.now.updatetime ≤ now }
-        requires tick { now ≤ LAST_TICK }
-        requires given { unsigned_abs value ≤ READ_LIMIT }
+        requires tick { IsTick now }
+        requires given { IsReadable value }
         ensures { result ≡ moved now self.now value }
     {
         Vector {
@@ -119,7 +119,7 @@ impl Vector {
     /// The vector after legs alone were written at tick `now`: they begin at the value that is implied.
     pub fn turned(&self, now: u32, function: Legs) -> Vector
         requires after { self.now.updatetime ≤ now }
-        requires tick { now ≤ LAST_TICK }
+        requires tick { IsTick now }
         ensures { result ≡ turned now self.now function }
     {
         Vector {

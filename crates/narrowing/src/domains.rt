@@ -1,6 +1,6 @@
 //! The objects that suffice for a query.
-ghost use Rattle.std.specs.Prelude.{◌≡◌, ◌<◌, ◌≤◌, ◌+◌, length, IfOk, IfSome, OnOk};
-ghost use Rattle.formula_shape.specs.declared.limits.TheConstants.{OBJECT_LIMIT};
+ghost use Rattle.std.specs.Prelude.{◌≡◌, ◌<◌, ◌+◌, length, IfOk, IfSome, OnOk};
+ghost use Rattle.formula_shape.specs.Sizes.{FitInQuery};
 ghost use Rattle.formula.specs.Tree.{resolved_view};
 ghost use Rattle.narrowing.specs.Narrowed.{AreOfClasses, IsShare, Suffice, SufficeSoFar, SufficeWithin};
 
@@ -76,7 +76,7 @@ fn push_share(
 ) -> Result<bool, AllocError>
     requires classes { AreOfClasses scene.now.store.now (resolved_view q.now) scene.now.domains.now }
     requires within { length some.old < length scene.now.domains.now }
-    requires few { length scene.now.domains.now ≤ OBJECT_LIMIT }
+    requires few { FitInQuery scene.now.domains.now }
     requires so_far { SufficeSoFar scene.now (resolved_view q.now) some.old }
     ensures count { OnOk result (length some.new ≡ length some.old + 1) }
     ensures so_far { OnOk result (SufficeSoFar scene.now (resolved_view q.now) some.new) }
@@ -97,7 +97,7 @@ fn push_share(
 
 /// The first variable without objects.
 fn next_variable(some: &Domains) -> u8
-    requires { length some.now ≤ OBJECT_LIMIT }
+    requires { FitInQuery some.now }
     ensures { result ≡ length some.now }
 {
     some.len() as u8

@@ -4,6 +4,7 @@ ghost use Rattle.formula.specs.declared.tree.RAtom.TheVariants as atoms;
 ghost use Rattle.narrowing.specs.Beside.{AreBeside, AreDomainOf, IsApart, IsGrown, IsGrownSides, IsWithNear, IsWithThose, NeedsBeside};
 ghost use Rattle.narrowing.specs.Holding.{AreLost};
 ghost use Rattle.case_table.specs.Comparison.{is_at_most};
+ghost use Rattle.object_store.specs.Contents.{HasNoWriteAfter};
 
 use crate::holding::FEW;
 use crate::lists::{if_at_most, in_order};
@@ -86,7 +87,7 @@ pub(crate) fn few_of<'s>(var: u8, scene: &Scene<'s>) -> Option<&'s [u32]>
 
 /// Whether an object can come near to one of some others.
 pub(crate) fn can_be_beside(id: u32, others: &[u32], most: Fix, scene: &Scene) -> bool
-    requires after { scene.now.store.now.last_tick ≤ scene.now.w.lo }
+    requires after { HasNoWriteAfter scene.now.store.now scene.now.w.lo }
     ensures { result ≡ false → AreLost (IsApart scene.now most id) others.now [] }
 {
     let mut rest = others;
@@ -101,7 +102,7 @@ pub(crate) fn can_be_beside(id: u32, others: &[u32], most: Fix, scene: &Scene) -
 
 /// Whether an object can come near to another one.
 fn can_be_beside_one(id: u32, other: u32, most: Fix, scene: &Scene) -> bool
-    requires after { scene.now.store.now.last_tick ≤ scene.now.w.lo }
+    requires after { HasNoWriteAfter scene.now.store.now scene.now.w.lo }
     ensures { result ≡ false → IsApart scene.now most id other }
 {
     match scene.store.whereabouts(other, scene.w) {
@@ -119,7 +120,7 @@ pub(crate) fn those_beside(
     most: Fix,
     scene: &Scene,
 ) -> Result<Option<Vec<u32>>, AllocError>
-    requires after { scene.now.store.now.last_tick ≤ scene.now.w.lo }
+    requires after { HasNoWriteAfter scene.now.store.now scene.now.w.lo }
     ensures { IfOk result (λ found. IfSome found (λ ids. AreBeside scene.now class most others.now ids.items)) }
 {
     let limit = scene.store.class_names(class).len() / 2 / others.len().max(1);
@@ -145,7 +146,7 @@ fn push_beside(
     limit: usize,
     scene: &Scene,
 ) -> Result<bool, AllocError>
-    requires after { scene.now.store.now.last_tick ≤ scene.now.w.lo }
+    requires after { HasNoWriteAfter scene.now.store.now scene.now.w.lo }
     ensures { IfOk result (λ are_told. are_told ≡ true → IsWithThose scene.now class most other ids.old.items ids.new.items) }
 {
     match scene.store.whereabouts(other, scene.w) {

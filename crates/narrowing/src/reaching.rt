@@ -1,6 +1,7 @@
 //! How far places reach that are possibly in a polygon, where each may be off by an error.
 ghost use Rattle.std.specs.Prelude.{◌≡◌, ◌+◌, ◌*◌, ◌^◌, ◌≤◌, ◌<◌, ℤ, ◌≤ℤ◌, pos, ◌-ℤ◌, ◌*ℤ◌, neg_ℤ, unsigned_abs, true, IfSome};
 ghost use Rattle.fixed_point.specs.declared.number.Point.{Point};
+ghost use Rattle.fixed_point.specs.Sizes.{IsFix};
 ghost use Rattle.geometry.specs.Margin.{is_inside_by, is_left_by};
 ghost use Rattle.geometry.specs.Polygon.{are_one};
 ghost use Rattle.geometry.specs.declared.limits.TheConstants.{VERTEX_LIMIT};
@@ -103,7 +104,7 @@ fn are_one(p: Point, q: Point) -> bool
 /// How far a point is in a direction.
 fn ahead(p: Point, direction: Direction) -> i64
     ensures value { result ≡ ahead_by direction p.x p.y }
-    ensures size { unsigned_abs result ≤ FIX_LIMIT }
+    ensures size { IsFix result }
 {
     match direction {
         Direction::Right => p.x.raw(),
@@ -119,7 +120,7 @@ fn overhang(before: Way, after: Way, error: u32) -> Option<i64>
     requires before { length_of before ≤ 4 * FIX_LIMIT }
     requires after { length_of after ≤ 4 * FIX_LIMIT }
     ensures most { IfSome result (λ most. (x y : ℤ) → IsBeside error before x y → IsBeside error after x y → x ≤ℤ most) }
-    ensures size { IfSome result (λ most. unsigned_abs most ≤ FIX_LIMIT) }
+    ensures size { IfSome result (λ most. IsFix most) }
 {
     let turn = turn(before, after);
     if before.ahead < 0 || 0 < after.ahead || turn <= 0 {

@@ -4,6 +4,7 @@ use Rattle.std.specs.Ordering.{int_eq}
 use Rattle.convex.specs.Parabola.{parabola}
 use Rattle.nearest.specs.declared.order.Difference.{Difference}
 use Rattle.nearest.specs.declared.squares.Separation.{Separation}
+use Rattle.exact.specs.Rising.{FallsTo, RisesIn}
 
 -- the square of the distance so many ticks after the first
 abbrev pub separation_after : Separation → ℕ → ℤ
@@ -32,3 +33,9 @@ pub record IsLastLow (f : ℕ → ℤ) (limit : ℤ) (lowest last end : ℕ) : T
   pub bound : end ≤ last
   pub low : f end ≤ℤ limit
   pub high_after : end < last → limit <ℤ f (end + 1)
+
+-- up to a number, and from it to a last one, parabolas of this quadratic and this linear part fall and rise
+pub record IsTurn (quadratic : ℕ) (linear : ℤ) (last turn : ℕ) : Type 0 where
+  pub bound : turn ≤ last
+  pub falls : (constant : ℤ) → FallsTo (parabola quadratic linear constant) turn
+  pub rises : (constant : ℤ) → RisesIn (parabola quadratic linear constant) turn last

@@ -1,6 +1,6 @@
 //! How near and how far an object comes in a slice of time.
 ghost use Rattle.std.specs.Prelude.{◌≡◌, ◌≤◌, ℤ, pos, ◌≤ℤ◌, true, IfSome};
-ghost use Rattle.tick_set.specs.declared.spans.TheConstants.{LAST_TICK};
+ghost use Rattle.tick_set.specs.Ticks.{IsTick};
 ghost use Rattle.nearest.specs.Order.{is_below, separation_after};
 
 use crate::parabola::parabola_at;
@@ -75,7 +75,7 @@ fn greater(a: i128, b: i128) -> i128
 }
 
 fn value_after(separation: &Separation, k: u32) -> i128
-    requires { k ≤ LAST_TICK }
+    requires { IsTick k }
     ensures { result ≡ separation_after separation.now k }
 {
     parabola_at(

@@ -1,10 +1,11 @@
 //! The objects of a class, and how they move.
-ghost use Rattle.std.specs.Prelude.{◌≡◌, ◌==◌, ◌+◌, ◌<◌, ◌≤◌, ◌++◌, ◌∷◌, [], not, All, IfOk, OnErr, OnOk, length, map};
+ghost use Rattle.std.specs.Prelude.{◌≡◌, ◌==◌, ◌+◌, ◌<◌, ◌++◌, ◌∷◌, [], not, All, IfOk, OnErr, OnOk, length, map};
 ghost use Rattle.std.specs.List.{filter};
 ghost use Rattle.history.specs.Catalog.{ids_of};
 ghost use Rattle.nearness.specs.Nearest.{others_of};
-ghost use Rattle.object_store.specs.Contents.{catalog_of, history_of};
+ghost use Rattle.object_store.specs.Contents.{IsObjectId, catalog_of, history_of};
 ghost use Rattle.nearest.specs.Courses.{AreNumbered, IsOfStore};
+ghost use Rattle.steps.specs.Counting.{StepsAtMost};
 
 use crate::sight::Sight;
 use motion::Timeline;
@@ -35,8 +36,7 @@ pub fn courses_of<'a, L: Ledger>(
     ensures ids { IfOk result (λ courses. map (λ c. c.id) courses.items ≡ others_of (history_of store.now) class to) }
     ensures stored { IfOk result (λ courses. All (IsOfStore store.now) courses.items) }
     ensures numbered { IfOk result (λ courses. AreNumbered 0 courses.items) }
-    ensures least { reads.old ≤ reads.new }
-    ensures most { reads.new ≤ reads.old + length (ids_of (catalog_of store.now) class) }
+    ensures reads { StepsAtMost reads.old reads.new (length (ids_of (catalog_of store.now) class)) }
 {
     let mut courses = Vec::new(alloc);
     'objects: for id in store.class_names(class) {
@@ -53,15 +53,14 @@ fn add_course<'a, L: Ledger>(
     store: &'a Store,
     reads: &mut Steps<L>,
 ) -> Result<(), AllocError>
-    requires there { id < length store.now.objects }
+    requires there { IsObjectId store.now id }
     requires stored { All (IsOfStore store.now) courses.old.items }
     requires numbered { AreNumbered 0 courses.old.items }
     ensures ids { OnOk result (map (λ c. c.id) courses.new.items
         ≡ map (λ c. c.id) courses.old.items ++ filter (λ n. not (n == to)) (id ∷ [])) }
     ensures stored { OnOk result (All (IsOfStore store.now) courses.new.items) }
     ensures numbered { OnOk result (AreNumbered 0 courses.new.items) }
-    ensures least { reads.old ≤ reads.new }
-    ensures most { reads.new ≤ reads.old + 1 }
+    ensures reads { StepsAtMost reads.old reads.new 1 }
 {
     if id == to {
         return Ok(());

@@ -2,6 +2,7 @@
 ghost use Rattle.std.specs.Prelude.{◌≡◌, ◌==◌, ◌<◌, ◌&&◌, ◌||◌, ℕ, true, [], length, IfOk, OnOk};
 ghost use Rattle.tick_set.specs.Runs.{IsNormal, spans_have};
 ghost use Rattle.nearest.specs.Found.{runs_at};
+ghost use Rattle.exact.specs.Lists.{SameLength};
 
 use std::alloc::{AllocError, Global};
 use tick_set::{Runs, Span};
@@ -23,7 +24,7 @@ pub fn append_at(found: &mut Vec<Runs>, index: usize, runs: &[Span]) -> Result<(
     requires index { index < length found.old.items }
     requires normal { IsNormal runs.now }
     requires past { (t u : ℕ) → spans_have (runs_at found.old.items index) t ≡ true → spans_have runs.now u ≡ true → t < u }
-    ensures length { length found.new.items ≡ length found.old.items }
+    ensures length { SameLength found.new.items found.old.items }
     ensures runs { OnOk result ((i t : ℕ) → i < length found.old.items → spans_have (runs_at found.new.items i) t
         ≡ (spans_have (runs_at found.old.items i) t || ((index == i) && spans_have runs.now t))) }
 {

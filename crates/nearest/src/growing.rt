@@ -1,8 +1,9 @@
 //! Slices of time that grow.
 ghost use Rattle.std.specs.Prelude.{◌≡◌, ◌+◌, ◌≤◌, IfOk, length};
-ghost use Rattle.tick_set.specs.declared.spans.TheConstants.{LAST_TICK};
+ghost use Rattle.tick_set.specs.Ticks.{IsTick};
 ghost use Rattle.nearest.specs.Courses.{HaveAscendingIndexes};
 ghost use Rattle.nearest.specs.Found.{AreBefore, HaveMore};
+ghost use Rattle.exact.specs.Lists.{SameLength};
 
 use crate::course::Course;
 use crate::outset::first_slice;
@@ -24,7 +25,7 @@ pub fn add_growing(
 ) -> Result<u32, AllocError>
     requires ascending { HaveAscendingIndexes 0 (length found.old.items) courses.now }
     requires before { AreBefore w.lo found.old.items }
-    ensures length { length found.new.items ≡ length found.old.items }
+    ensures length { SameLength found.new.items found.old.items }
     ensures bounds { IfOk result (λ until. (w.lo ≤ until) × (until ≤ w.hi + 1)) }
     ensures found { IfOk result (λ until. HaveMore target.now courses.now k w.lo until found.old.items found.new.items) }
 {
@@ -46,7 +47,7 @@ pub fn add_growing(
 // The slice from a tick on, with as many more ticks, if there are so many up to the last one.
 fn slice_from(at: u32, more: u32, last: u32) -> Window
     requires order { at ≤ last }
-    requires tick { last ≤ LAST_TICK }
+    requires tick { IsTick last }
     ensures begins { result.lo ≡ at }
     ensures ends { result.hi ≤ last }
 {

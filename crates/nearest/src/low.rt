@@ -2,7 +2,7 @@
 ghost use Rattle.std.specs.Prelude.{◌≡◌, ℕ, ◌+◌, ◌<◌, ◌≤◌, ◌-◌, ◌≤ℤ◌, ◌<ℤ◌, true, option_to_list, unsigned_abs, IfSome};
 ghost use Rattle.convex.specs.Stretch.{is_low};
 ghost use Rattle.tick_set.specs.Runs.{IsRuns};
-ghost use Rattle.tick_set.specs.declared.spans.TheConstants.{LAST_TICK};
+ghost use Rattle.tick_set.specs.Ticks.{IsTick};
 ghost use Rattle.nearest.specs.Order.{IsFirstLow, IsLastLow, difference_after};
 
 use crate::order::Difference;
@@ -95,7 +95,7 @@ fn inside(d: &Difference, limit: i128, w: Window) -> Option<Span>
 fn guessed(d: &Difference, limit: i128, lowest: u32, last: u32) -> Option<(u32, u32)>
     requires size { unsigned_abs limit ≤ 1 }
     requires ordered { lowest ≤ last }
-    requires in_range { last ≤ LAST_TICK }
+    requires in_range { IsTick last }
     ensures first { IfSome result (λ ends. IsFirstLow (difference_after d.now) limit lowest ends.0) }
     ensures end { IfSome result (λ ends. IsLastLow (difference_after d.now) limit lowest last ends.1) }
 {
@@ -108,7 +108,7 @@ fn guessed(d: &Difference, limit: i128, lowest: u32, last: u32) -> Option<(u32, 
 // The first number at which the difference is at most the limit, where that is the guess or the next one.
 fn first_low(d: &Difference, limit: i128, guess: u32, lowest: u32) -> Option<u32>
     requires guessed { guess ≤ lowest }
-    requires in_range { lowest ≤ LAST_TICK }
+    requires in_range { IsTick lowest }
     ensures { IfSome result (IsFirstLow (difference_after d.now) limit lowest) }
 {
     if d.at(guess) <= limit {
@@ -130,7 +130,7 @@ fn first_low(d: &Difference, limit: i128, guess: u32, lowest: u32) -> Option<u32
 fn last_low(d: &Difference, limit: i128, guess: u32, lowest: u32, last: u32) -> Option<u32>
     requires guessed { lowest ≤ guess }
     requires ordered { guess ≤ last }
-    requires in_range { last ≤ LAST_TICK }
+    requires in_range { IsTick last }
     ensures { IfSome result (IsLastLow (difference_after d.now) limit lowest last) }
 {
     if d.at(guess) <= limit {

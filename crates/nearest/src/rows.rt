@@ -1,13 +1,14 @@
 //! The rows of the nearest objects.
-ghost use Rattle.std.specs.Prelude.{◌≡◌, ◌+◌, ◌<◌, ◌≤◌, ◌++◌, ◌&&◌, ℕ, Bool, IfOk, OnOk, length};
+ghost use Rattle.std.specs.Prelude.{◌≡◌, ◌+◌, ◌<◌, ◌++◌, ◌&&◌, ℕ, Bool, IfOk, OnOk, length};
 ghost use Rattle.history.specs.Catalog.{ids_of};
 ghost use Rattle.nearness.specs.Nearest.{near};
-ghost use Rattle.object_store.specs.Contents.{catalog_of, history_of};
+ghost use Rattle.object_store.specs.Contents.{IsObjectId, catalog_of, history_of};
 ghost use Rattle.tick_set.specs.Runs.{IsNormal, spans_have};
 ghost use Rattle.tick_set.specs.Ticks.{within};
 ghost use Rattle.tick_set.specs.declared.spans.Window.{Window};
 ghost use Rattle.nearest.specs.Courses.{AreNumbered};
 ghost use Rattle.nearest.specs.Rows.{if_some, object_row, rows_along, told_near};
+ghost use Rattle.steps.specs.Counting.{StepsAtMost};
 
 use crate::course::{Course, courses_of};
 use crate::slices::near_runs;
@@ -42,10 +43,9 @@ pub fn nearest_rows<L: Ledger, M: Ledger>(
     reads: &mut Steps<L>,
     _probes: &mut Steps<M>,
 ) -> Result<Vec<NearRow>, AllocError>
-    requires { to < length store.now.objects }
+    requires { IsObjectId store.now to }
     ensures rows { IfOk result (λ rows. told_near rows.items ≡ near (history_of store.now) class to k w.lo w.hi) }
-    ensures least { reads.old ≤ reads.new }
-    ensures most { reads.new ≤ reads.old + (length (ids_of (catalog_of store.now) class) + 1) }
+    ensures reads { StepsAtMost reads.old reads.new (length (ids_of (catalog_of store.now) class) + 1) }
     ensures unprobed { _probes.new ≡ _probes.old }
 {
     let target = store.timeline(to, reads);

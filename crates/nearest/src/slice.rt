@@ -5,6 +5,7 @@ ghost use Rattle.tick_set.specs.Ticks.{within};
 ghost use Rattle.nearest.specs.Courses.{is_near_along, rank_along};
 ghost use Rattle.nearest.specs.Found.{FitSlice, HaveMore};
 ghost use Rattle.nearest.specs.Sights.{AreFewWithin, IsSeenFrom};
+ghost use Rattle.exact.specs.Lists.{SameLength};
 
 use crate::certain::sure_bound;
 use crate::course::Course;
@@ -27,7 +28,7 @@ pub fn add_near(
     slice: Window,
 ) -> Result<(), AllocError>
     requires { FitSlice target.now slice courses.now found.old.items }
-    ensures length { length found.new.items ≡ length found.old.items }
+    ensures length { SameLength found.new.items found.old.items }
     ensures found { OnOk result
         (HaveMore target.now courses.now k slice.lo (slice.hi + 1) found.old.items found.new.items) }
 {

@@ -4,6 +4,7 @@ ghost use Rattle.tick_set.specs.Runs.{spans_have};
 ghost use Rattle.tick_set.specs.Ticks.{within};
 ghost use Rattle.nearest.specs.Courses.{AreNumbered, HaveAscendingIndexes, index_near};
 ghost use Rattle.nearest.specs.Found.{AreBefore, FitSlice, HaveMore, runs_at};
+ghost use Rattle.exact.specs.Lists.{SameLength};
 
 use crate::course::Course;
 use crate::found::none_found;
@@ -23,7 +24,7 @@ pub fn near_runs(
     w: Window,
 ) -> Result<Vec<Runs>, AllocError>
     requires { AreNumbered 0 courses.now }
-    ensures length { IfOk result (λ found. length found.items ≡ length courses.now) }
+    ensures length { IfOk result (λ found. SameLength found.items courses.now) }
     ensures found { IfOk result (λ found. (i t : ℕ) → i < length courses.now → spans_have (runs_at found.items i) t
         ≡ (within w.lo w.hi t && index_near target.now courses.now k courses.now i t)) }
 {
@@ -60,7 +61,7 @@ pub fn add_slices(
 ) -> Result<u32, AllocError>
     requires ascending { HaveAscendingIndexes 0 (length found.old.items) courses.now }
     requires before { AreBefore slice.lo found.old.items }
-    ensures length { length found.new.items ≡ length found.old.items }
+    ensures length { SameLength found.new.items found.old.items }
     ensures bounds { IfOk result (λ until. (slice.lo ≤ until) × (until ≤ slice.hi + 1)) }
     ensures found { IfOk result (λ until. HaveMore target.now courses.now k slice.lo until found.old.items found.new.items) }
 {
@@ -118,7 +119,7 @@ fn add_slice(
     left: &mut u64,
 ) -> Result<u32, AllocError>
     requires { FitSlice target.now slice courses.now found.old.items }
-    ensures length { length found.new.items ≡ length found.old.items }
+    ensures length { SameLength found.new.items found.old.items }
     ensures bounds { IfOk result (λ until. (slice.lo ≤ until) × (until ≤ slice.hi + 1)) }
     ensures found { IfOk result (λ until. HaveMore target.now courses.now k slice.lo until found.old.items found.new.items) }
 {
@@ -142,7 +143,7 @@ fn add_rest(
 ) -> Result<(), AllocError>
     requires ascending { HaveAscendingIndexes 0 (length found.old.items) courses.now }
     requires before { AreBefore slice.lo found.old.items }
-    ensures length { length found.new.items ≡ length found.old.items }
+    ensures length { SameLength found.new.items found.old.items }
     ensures found { OnOk result
         (HaveMore target.now courses.now k slice.lo (slice.hi + 1) found.old.items found.new.items) }
 {

@@ -1,7 +1,7 @@
 //! The square of the distance of two objects that move along lines.
 ghost use Rattle.std.specs.Prelude.{◌≡◌, ◌+◌, ◌*◌, ◌^◌, ◌≤◌, ℕ, pos, ◌+ℤ◌, ◌-ℤ◌, ◌*ℤ◌, unsigned_abs};
-ghost use Rattle.fixed_point.specs.declared.number.TheConstants.{SLOPE_LIMIT};
-ghost use Rattle.linear_crossing.specs.declared.quad.TheConstants.{COORDINATE_LIMIT};
+ghost use Rattle.fixed_point.specs.Sizes.{IsSlopeDifference};
+ghost use Rattle.linear_crossing.specs.Moving.{IsCoordinateDifference};
 
 use exact::{plus, times};
 use fixed_point::Slope;
@@ -45,14 +45,14 @@ impl Separation {
 // The first slope less the second.
 fn slope_apart(a: Slope, b: Slope) -> i64
     ensures value { result ≡ a -ℤ b }
-    ensures size { unsigned_abs result ≤ 2 * SLOPE_LIMIT }
+    ensures size { IsSlopeDifference result }
 {
     a.raw() - b.raw()
 }
 
 // The square of a slope as another motion sees it.
 fn squared(step: i64) -> u64
-    requires { unsigned_abs step ≤ 2 * SLOPE_LIMIT }
+    requires { IsSlopeDifference step }
     ensures value { pos result ≡ step *ℤ step }
     ensures size { result ≤ 4 * 10 ^ 12 }
 {
@@ -62,10 +62,10 @@ fn squared(step: i64) -> u64
 
 // How the square changes by each tick at first.
 fn drift(x: i64, y: i64, dx: i64, dy: i64) -> i128
-    requires x_size { unsigned_abs x ≤ 2 * COORDINATE_LIMIT }
-    requires y_size { unsigned_abs y ≤ 2 * COORDINATE_LIMIT }
-    requires dx_size { unsigned_abs dx ≤ 2 * SLOPE_LIMIT }
-    requires dy_size { unsigned_abs dy ≤ 2 * SLOPE_LIMIT }
+    requires x_size { IsCoordinateDifference x }
+    requires y_size { IsCoordinateDifference y }
+    requires dx_size { IsSlopeDifference dx }
+    requires dy_size { IsSlopeDifference dy }
     ensures value { result ≡ pos 2 *ℤ (x *ℤ dx +ℤ y *ℤ dy) }
     ensures size { unsigned_abs result ≤ 2 * 10 ^ 22 }
 {
@@ -77,8 +77,8 @@ fn drift(x: i64, y: i64, dx: i64, dy: i64) -> i128
 
 // The square at first.
 fn start(x: i64, y: i64) -> i128
-    requires x_size { unsigned_abs x ≤ 2 * COORDINATE_LIMIT }
-    requires y_size { unsigned_abs y ≤ 2 * COORDINATE_LIMIT }
+    requires x_size { IsCoordinateDifference x }
+    requires y_size { IsCoordinateDifference y }
     ensures value { result ≡ x *ℤ x +ℤ y *ℤ y }
     ensures size { unsigned_abs result ≤ 9 * 10 ^ 30 }
 {

@@ -2,7 +2,8 @@
 ghost use Rattle.std.specs.Prelude.{◌≡◌, ◌*◌, ◌^◌, ◌≤◌, ℤ, true, unsigned_abs};
 ghost use Rattle.convex.specs.Parabola.{parabola};
 ghost use Rattle.exact.specs.Rising.{FallsTo, RisesIn};
-ghost use Rattle.tick_set.specs.declared.spans.TheConstants.{LAST_TICK};
+ghost use Rattle.tick_set.specs.Ticks.{IsTick};
+ghost use Rattle.nearest.specs.Order.{IsTurn};
 
 use crate::parabola::rise_at;
 use crate::roots::lowest;
@@ -18,10 +19,8 @@ pub struct Rise {
 
 /// The number of `0..=last` up to which the parabola falls, and from which on it rises.
 pub fn turn(rise: &Rise, last: u32) -> u32
-    requires { last ≤ LAST_TICK }
-    ensures bound { result ≤ last }
-    ensures falls { (constant : ℤ) → FallsTo (parabola rise.now.quadratic rise.now.linear constant) result }
-    ensures rises { (constant : ℤ) → RisesIn (parabola rise.now.quadratic rise.now.linear constant) result last }
+    requires { IsTick last }
+    ensures { IsTurn rise.now.quadratic rise.now.linear last result }
 {
     let guess = lowest(rise.quadratic, rise.linear, last);
     if falls_to(rise, guess) && rises_from(rise, guess, last) {
@@ -33,7 +32,7 @@ pub fn turn(rise: &Rise, last: u32) -> u32
 // Whether it falls up to a number; false tells nothing.
 #[inline]
 fn falls_to(rise: &Rise, k: u32) -> bool
-    requires { k ≤ LAST_TICK }
+    requires { IsTick k }
     ensures { result ≡ true → (constant : ℤ) → FallsTo (parabola rise.now.quadratic rise.now.linear constant) k }
 {
     if k == 0 {
@@ -48,7 +47,7 @@ fn falls_to(rise: &Rise, k: u32) -> bool
 // Whether it rises from a number up to `last`; false tells nothing.
 #[inline]
 fn rises_from(rise: &Rise, k: u32, last: u32) -> bool
-    requires { k ≤ LAST_TICK }
+    requires { IsTick k }
     ensures { result ≡ true → (constant : ℤ) → RisesIn (parabola rise.now.quadratic rise.now.linear constant) k last }
 {
     if k == last {
@@ -62,10 +61,8 @@ fn rises_from(rise: &Rise, k: u32, last: u32) -> bool
 
 // The same number as `turn` tells, without a guess.
 fn bisected(rise: &Rise, last: u32) -> u32
-    requires { last ≤ LAST_TICK }
-    ensures bound { result ≤ last }
-    ensures falls { (constant : ℤ) → FallsTo (parabola rise.now.quadratic rise.now.linear constant) result }
-    ensures rises { (constant : ℤ) → RisesIn (parabola rise.now.quadratic rise.now.linear constant) result last }
+    requires { IsTick last }
+    ensures { IsTurn rise.now.quadratic rise.now.linear last result }
 {
     let mut low = 0;
     let mut high = last;

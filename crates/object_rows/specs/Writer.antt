@@ -3,6 +3,7 @@ use Rattle.std.specs.Prelude.{◌≡◌, ℕ, false, Option, Some, List, [], Vec
 use Rattle.std.specs.declared.alloc.Global.{Global}
 use Rattle.csv.specs.Writing.{default_writer, fields_written, has_written, text_written, writer_setup}
 use Rattle.csv.specs.declared.writer.Writer.{Writer}
+use Rattle.csv.specs.Records.{Row, partial_of}
 
 abbrev pub VecWriter : Type 0
 VecWriter = Writer (Vec ℕ Global)
@@ -18,3 +19,7 @@ pub record IsBetweenRows (writer : VecWriter) : Type 0 where
   pub setup : writer_setup writer ≡ default_writer
   pub fields : fields_written writer ≡ 0
   pub wrote : has_written writer ≡ false
+
+-- each field of the row is ended
+abbrev pub IsBetweenFields : Row → Type 0
+IsBetweenFields row = partial_of row ≡ []

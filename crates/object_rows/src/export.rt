@@ -1,17 +1,18 @@
 //! Writing the objects of a class.
-ghost use Rattle.std.specs.Prelude.{◌≡◌, ◌+◌, ◌<◌, ◌≤◌, ◌++◌, ◌∷◌, [], length, option_map, IfOk, IfSome, OnOk};
+ghost use Rattle.std.specs.Prelude.{◌≡◌, ◌+◌, ◌<◌, ◌++◌, ◌∷◌, [], length, option_map, IfOk, IfSome, OnOk};
 ghost use Rattle.std.specs.List.{flat_map};
-ghost use Rattle.tick_set.specs.declared.spans.TheConstants.{LAST_TICK};
+ghost use Rattle.tick_set.specs.Ticks.{IsTick};
 ghost use Rattle.csv.specs.Records.{fields_of, partial_of};
 ghost use Rattle.csv.specs.Writing.{default_writer, row_text};
 ghost use Rattle.fixed_point.specs.Canonical.{fix_text};
 ghost use Rattle.motion.specs.Cells.{AreCellsAt, IsCellAt};
 ghost use Rattle.motion.specs.Timeline.{state_at};
 ghost use Rattle.history.specs.Catalog.{ids_of};
-ghost use Rattle.object_store.specs.Contents.{catalog_of, history_of};
+ghost use Rattle.object_store.specs.Contents.{IsClassNumber, IsObjectId, catalog_of, history_of};
 ghost use Rattle.object_rows.specs.Columns.{columns_of_attribute, header_of, rate_name};
 ghost use Rattle.object_rows.specs.Exported.{cell_fields, exported, object_fields, object_rows, state_rows};
-ghost use Rattle.object_rows.specs.Writer.{IsBetweenRows, text_by};
+ghost use Rattle.object_rows.specs.Writer.{IsBetweenFields, IsBetweenRows, text_by};
+ghost use Rattle.steps.specs.Counting.{StepsAtMost};
 
 use crate::columns::is_dynamic;
 use csv::{ByteRecord, Writer};
@@ -21,21 +22,20 @@ use object_store::{AttrDef, ClassId, ObjectId, Store};
 use std::alloc::{AllocError, Global};
 use std::sync::ledger::Ledger;
 use steps::Steps;
-use tick_set::LAST_TICK;
 
 /// Adds a field to a row.
 fn push(row: &mut ByteRecord, field: &[u8]) -> Result<(), AllocError>
-    requires { partial_of row.old ≡ [] }
+    requires { IsBetweenFields row.old }
     ensures fields { OnOk result (fields_of row.new ≡ fields_of row.old ++ field.now ∷ []) }
-    ensures partial { OnOk result (partial_of row.new ≡ []) }
+    ensures partial { OnOk result (IsBetweenFields row.new) }
 {
     row.push_field(field)
 }
 
 fn push_rate_name(alloc: Global, row: &mut ByteRecord, name: &[u8]) -> Result<(), AllocError>
-    requires { partial_of row.old ≡ [] }
+    requires { IsBetweenFields row.old }
     ensures fields { OnOk result (fields_of row.new ≡ fields_of row.old ++ rate_name name.now ∷ []) }
-    ensures partial { OnOk result (partial_of row.new ≡ []) }
+    ensures partial { OnOk result (IsBetweenFields row.new) }
 {
     let mut rate = Vec::from_slice(alloc, name)?;
     rate.extend_from_slice(b".rate")?;
@@ -44,9 +44,9 @@ fn push_rate_name(alloc: Global, row: &mut ByteRecord, name: &[u8]) -> Result<()
 
 /// Adds the columns of an attribute.
 fn push_columns(alloc: Global, row: &mut ByteRecord, attr: &AttrDef) -> Result<(), AllocError>
-    requires { partial_of row.old ≡ [] }
+    requires { IsBetweenFields row.old }
     ensures fields { OnOk result (fields_of row.new ≡ fields_of row.old ++ columns_of_attribute attr.now) }
-    ensures partial { OnOk result (partial_of row.new ≡ []) }
+    ensures partial { OnOk result (IsBetweenFields row.new) }
 {
     push(row, attr.name.bytes())?;
     if is_dynamic(attr.kind) {
@@ -71,9 +71,9 @@ fn header_of(alloc: Global, attrs: &[AttrDef]) -> Result<ByteRecord, AllocError>
 }
 
 fn push_slope(row: &mut ByteRecord, slope: Slope) -> Result<(), AllocError>
-    requires { partial_of row.old ≡ [] }
+    requires { IsBetweenFields row.old }
     ensures fields { OnOk result (fields_of row.new ≡ fields_of row.old ++ fix_text slope ∷ []) }
-    ensures partial { OnOk result (partial_of row.new ≡ []) }
+    ensures partial { OnOk result (IsBetweenFields row.new) }
 {
     let number = Fix::of(slope.raw()).unwrap();
     push(row, number.print().bytes())
@@ -81,11 +81,11 @@ fn push_slope(row: &mut ByteRecord, slope: Slope) -> Result<(), AllocError>
 
 /// Adds the fields of a cell, as it is at tick `now`.
 fn push_cell(row: &mut ByteRecord, now: u32, cell: &Cell) -> Result<(), AllocError>
-    requires partial { partial_of row.old ≡ [] }
-    requires tick { now ≤ LAST_TICK }
+    requires partial { IsBetweenFields row.old }
+    requires tick { IsTick now }
     requires written { IsCellAt cell.now now }
     ensures fields { OnOk result (fields_of row.new ≡ fields_of row.old ++ cell_fields now cell.now) }
-    ensures partial { OnOk result (partial_of row.new ≡ []) }
+    ensures partial { OnOk result (IsBetweenFields row.new) }
 {
     match cell {
         Cell::Num(number) => push(row, number.print().bytes()),
@@ -100,10 +100,10 @@ fn push_cell(row: &mut ByteRecord, now: u32, cell: &Cell) -> Result<(), AllocErr
 /// Makes a row that of an object.
 #[tactic(auto, using(crate::proofs::ExportLemmas::cell_steps))]
 fn fill(row: &mut ByteRecord, now: u32, name: &[u8], cells: &[Cell]) -> Result<(), AllocError>
-    requires tick { now ≤ LAST_TICK }
+    requires tick { IsTick now }
     requires written { AreCellsAt cells.now now }
     ensures fields { OnOk result (fields_of row.new ≡ object_fields now name.now cells.now) }
-    ensures partial { OnOk result (partial_of row.new ≡ []) }
+    ensures partial { OnOk result (IsBetweenFields row.new) }
 {
     row.clear();
     push(row, name)?;
@@ -150,7 +150,7 @@ fn write_state(
     timeline: &Timeline,
 ) -> Result<(), AllocError>
     requires between { IsBetweenRows writer.old }
-    requires tick { now ≤ LAST_TICK }
+    requires tick { IsTick now }
     ensures between { OnOk result (IsBetweenRows writer.new) }
     ensures text { OnOk result (text_by writer.new ≡ text_by writer.old ++ flat_map (row_text default_writer) (state_rows now name.now (state_at timeline.now now))) }
 {
@@ -171,8 +171,8 @@ fn write_object<L: Ledger>(
     reads: &mut Steps<L>,
 ) -> Result<(), AllocError>
     requires between { IsBetweenRows writer.old }
-    requires tick { now ≤ LAST_TICK }
-    requires id { id < length store.now.objects }
+    requires tick { IsTick now }
+    requires id { IsObjectId store.now id }
     ensures between { OnOk result (IsBetweenRows writer.new) }
     ensures text { OnOk result (text_by writer.new ≡ text_by writer.old ++ flat_map (row_text default_writer) (object_rows (history_of store.now) now id)) }
     ensures read { reads.new ≡ reads.old + 1 }
@@ -192,12 +192,11 @@ fn write_objects<L: Ledger>(
     reads: &mut Steps<L>,
 ) -> Result<(), AllocError>
     requires between { IsBetweenRows writer.old }
-    requires tick { now ≤ LAST_TICK }
+    requires tick { IsTick now }
     ensures between { OnOk result (IsBetweenRows writer.new) }
     ensures text { OnOk result (text_by writer.new ≡ text_by writer.old
         ++ flat_map (row_text default_writer) (flat_map (object_rows (history_of store.now) now) (ids_of (catalog_of store.now) class))) }
-    ensures least { reads.old ≤ reads.new }
-    ensures most { reads.new ≤ reads.old + length (ids_of (catalog_of store.now) class) }
+    ensures reads { StepsAtMost reads.old reads.new (length (ids_of (catalog_of store.now) class)) }
 {
     let mut rest = store.class_names(class);
     'ids: while let Some((id, later)) = rest.split_first() {
@@ -236,11 +235,10 @@ pub fn export_text<L: Ledger>(
     now: u32,
     reads: &mut Steps<L>,
 ) -> Result<Vec<u8>, AllocError>
-    requires class { class < length store.now.classes }
-    requires tick { now ≤ LAST_TICK }
+    requires class { IsClassNumber store.now class }
+    requires tick { IsTick now }
     ensures text { IfOk result (λ text. text.items ≡ exported (history_of store.now) now class) }
-    ensures least { reads.old ≤ reads.new }
-    ensures most { reads.new ≤ reads.old + length (ids_of (catalog_of store.now) class) }
+    ensures reads { StepsAtMost reads.old reads.new (length (ids_of (catalog_of store.now) class)) }
 {
     let attrs = store.schema().class(class).unwrap().attrs();
     let mut row = header_of(alloc, attrs)?;

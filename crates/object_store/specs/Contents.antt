@@ -1,5 +1,5 @@
 -- What a contract sees of a store: its classes, and its objects with their timelines.
-use Rattle.std.specs.Prelude.{ℕ, ◌==◌, Bool, is_some, Option, option_and_then, List, [], map, slice_get}
+use Rattle.std.specs.Prelude.{ℕ, ◌==◌, Bool, is_some, Option, option_and_then, List, [], map, slice_get, ◌≤◌, ◌<◌, length, ◌≡◌, position, Some}
 use Rattle.std.specs.List.{filter, find, enumerate_from}
 use Rattle.std.specs.Option.{option_map_or}
 use Rattle.std.specs.Str.{bytes_eq}
@@ -8,6 +8,7 @@ use Rattle.motion.specs.Timeline.{Epoch, state_at}
 use Rattle.history.specs.Write.{Attribute}
 use Rattle.history.specs.Catalog.{ClassInfo, ObjectInfo, Catalog}
 use Rattle.history.specs.History.{History}
+use Rattle.tick_set.specs.Ticks.{IsTick}
 
 -- an object that was ever inserted: its name, the number of its class, and the epochs of its timeline
 pub record StoredObject : Type 0 where
@@ -56,3 +57,24 @@ is_present_at t o = is_some (state_at o.epochs t)
 -- the name of an object by its id
 abbrev pub object_name : List StoredObject → ℕ → List ℕ
 object_name objects id = option_map_or (λ o. o.name) (slice_get objects id) []
+
+-- no object is written after the tick
+abbrev pub HasNoWriteAfter : Contents → ℕ → Type 0
+HasNoWriteAfter s t = s.last_tick ≤ t
+
+-- an object has the id
+abbrev pub IsObjectId : Contents → ℕ → Type 0
+IsObjectId s id = id < length s.objects
+
+-- a class has the number
+abbrev pub IsClassNumber : Contents → ℕ → Type 0
+IsClassNumber s number = number < length s.classes
+
+-- the object of the name has the id
+abbrev pub IsNamedAt : Contents → List ℕ → ℕ → Type 0
+IsNamedAt s name id = position (is_named name) s.objects ≡ Some id
+
+-- an object can be written at the tick
+pub record CanWriteAt (s : Contents) (now : ℕ) : Type 0 where
+  pub tick : IsTick now
+  pub after : HasNoWriteAfter s now

@@ -1,8 +1,8 @@
 //! What a command writes to the cells of an object.
-ghost use Rattle.std.specs.Prelude.{◌≡◌, ◌<◌, ◌≤◌, ◌++◌, ◌∷◌, [], codes, length, IfOk, OnOk};
+ghost use Rattle.std.specs.Prelude.{◌≡◌, ◌<◌, ◌++◌, ◌∷◌, [], codes, length, IfOk, OnOk};
 ghost use Rattle.std.specs.Option.{option_map_or};
 ghost use Rattle.motion.specs.Cells.{AreCellsAt, AreChanges, changed, place_sets};
-ghost use Rattle.tick_set.specs.declared.spans.TheConstants.{LAST_TICK};
+ghost use Rattle.tick_set.specs.Ticks.{IsTick};
 ghost use Rattle.history.specs.Catalog.{coordinates};
 ghost use Rattle.object_store.specs.Changes.{fresh_cells, setting_changes};
 
@@ -10,7 +10,6 @@ use crate::class::Class;
 use crate::names::{x_name, y_name};
 use motion::{Cell, Given, NamedSet, Place, write_cells};
 use std::alloc::{AllocError, Global};
-use tick_set::LAST_TICK;
 
 /// Writes to the cells of these indexes, in their order.
 pub type Changes = Vec<(usize, Given)>;
@@ -111,7 +110,7 @@ pub fn inserted(
     class: &Class,
     changes: &[(usize, Given)],
 ) -> Result<Vec<Cell>, AllocError>
-    requires tick { now ≤ LAST_TICK }
+    requires tick { IsTick now }
     requires given { AreChanges changes.now }
     ensures cells { IfOk result (λ v. v.items ≡ changed now changes.now (fresh_cells now class.now.attributes)) }
     ensures written { IfOk result (λ v. AreCellsAt v.items now) }
@@ -122,7 +121,7 @@ pub fn inserted(
 }
 
 fn fresh(alloc: Global, now: u32, class: &Class) -> Result<Vec<Cell>, AllocError>
-    requires { now ≤ LAST_TICK }
+    requires { IsTick now }
     ensures cells { IfOk result (λ v. v.items ≡ fresh_cells now class.now.attributes) }
     ensures written { IfOk result (λ v. AreCellsAt v.items now) }
 {

@@ -7,10 +7,11 @@ ghost use Rattle.history.specs.Catalog.{with_coordinates, coordinates};
 ghost use Rattle.object_store.specs.Faults.{attribute_named, repeats_attribute};
 ghost use Rattle.object_store.specs.Sound.{IsClass};
 ghost use Rattle.motion.specs.declared.cell.AttrKind.TheVariants.{Dyn};
+ghost use Rattle.motion.specs.Cells.{AreFewAttributes, IsCapacity};
 
 use crate::names::{x_name, y_name};
 use fixed_point::Word;
-use motion::{ATTRIBUTE_LIMIT, AttrKind, CAPACITY_LIMIT};
+use motion::{ATTRIBUTE_LIMIT, AttrKind};
 use std::alloc::{AllocError, Global};
 use std::marker::Model;
 
@@ -62,9 +63,8 @@ impl Class {
         point: bool,
         attrs: &[AttrDef],
     ) -> Result<Class, AllocError>
-        requires some { 0 < capacity }
-        requires limit { capacity ≤ CAPACITY_LIMIT }
-        requires few { length attrs.now ≤ ATTRIBUTE_LIMIT }
+        requires capacity { IsCapacity capacity }
+        requires few { AreFewAttributes attrs.now }
         requires differ { repeats_attribute (with_coordinates point attrs.now) ≡ false }
         ensures { IfOk result (λ k.
             k ≡ record { name = name; capacity = capacity; point = point; attributes = with_coordinates point attrs.now }) }
@@ -131,7 +131,7 @@ impl Class {
 
 /// These attributes, after `x` and `y` in a point class.
 fn all_attributes(alloc: Global, point: bool, attrs: &[AttrDef]) -> Result<Vec<AttrDef>, AllocError>
-    requires { length attrs.now ≤ ATTRIBUTE_LIMIT }
+    requires { AreFewAttributes attrs.now }
     ensures { IfOk result (λ v. v.items ≡ with_coordinates point attrs.now) }
 {
     let mut all = Vec::with_capacity(alloc, attrs.len() + 2)?;

@@ -5,7 +5,7 @@ ghost use Rattle.indexmap.specs.IndexMap.{index_map_len};
 ghost use Rattle.motion.specs.declared.cell.Cell.TheVariants as cells;
 ghost use Rattle.motion.specs.Cells.{IsCellAt};
 ghost use Rattle.motion.specs.Timeline.{AreBegunBy};
-ghost use Rattle.tick_set.specs.declared.spans.TheConstants.{LAST_TICK};
+ghost use Rattle.tick_set.specs.Ticks.{IsTick};
 ghost use Rattle.object_store.specs.ObjectView.{objects_of};
 ghost use Rattle.object_store.specs.Placing.{ArePlacedIn, EndInTime, HavePatches, IsPlaced, IsWithin, LiesInPatch};
 
@@ -13,11 +13,10 @@ use crate::along::{patch_along, patches_along};
 use crate::objects::{Object, Objects};
 use motion::{Cell, Epoch, Vector};
 use places::{Boxes, Extent, Patch, Patches, Places};
-use tick_set::LAST_TICK;
 
 /// Makes all patches anew, for the ticks from `from` to `upto`.
 pub fn renew_patches(boxes: &mut Boxes, objects: &Objects, from: u32, upto: u32)
-    requires tick { upto ≤ LAST_TICK }
+    requires tick { IsTick upto }
     requires begun { All (λ o. AreBegunBy o.epochs from) (objects_of objects.now.entries) }
     requires long { length boxes.old.patches ≡ length (objects_of objects.now.entries) }
     ensures { ArePlacedIn from boxes.new (objects_of objects.now.entries) }
@@ -59,7 +58,7 @@ impl Object {
     /// A patch in which it is at each tick from `from` to `upto`, unless it is absent. Its last epoch has begun by then.
     pub fn patch(&self, from: u32, upto: u32) -> Patch
         requires begun { AreBegunBy self.now.timeline from }
-        requires tick { upto ≤ LAST_TICK }
+        requires tick { IsTick upto }
         ensures { IsPlaced from upto result self.now.timeline }
     {
         match self.timeline.straight() {
@@ -71,7 +70,7 @@ impl Object {
     /// The same by the last epoch.
     fn patch_by_epoch(&self, from: u32, upto: u32) -> Patch
         requires begun { AreBegunBy self.now.timeline from }
-        requires tick { upto ≤ LAST_TICK }
+        requires tick { IsTick upto }
         ensures { IsPlaced from upto result self.now.timeline }
     {
         match self.timeline.last() {
@@ -84,7 +83,7 @@ impl Object {
 /// A patch in which an object is, unless it is absent, at each tick from `from` to `upto`, while an epoch is in force.
 fn patch_of(epoch: &Epoch, from: u32, upto: u32) -> Patch
     requires begun { epoch.now.from ≤ from }
-    requires tick { upto ≤ LAST_TICK }
+    requires tick { IsTick upto }
     ensures { (t : ℕ) → from ≤ t → t ≤ upto → LiesInPatch result t epoch.now.cells }
 {
     if upto < from || !epoch.is_present() {
@@ -102,7 +101,7 @@ fn extent_of(cell: Option<&Cell>, begun: u32, from: u32, upto: u32) -> Extent
     requires written { IfSome cell (λ c. IsCellAt c.now begun) }
     requires begun { begun ≤ from }
     requires order { from ≤ upto }
-    requires tick { upto ≤ LAST_TICK }
+    requires tick { IsTick upto }
     ensures { (t : ℕ) → from ≤ t → t ≤ upto → IsWithin result t (option_copied cell.entry) }
 {
     match cell {
@@ -117,7 +116,7 @@ fn extent_of(cell: Option<&Cell>, begun: u32, from: u32, upto: u32) -> Extent
 fn extent_of_vector(vector: &Vector, from: u32, upto: u32) -> Extent
     requires begun { vector.now.updatetime ≤ from }
     requires order { from ≤ upto }
-    requires tick { upto ≤ LAST_TICK }
+    requires tick { IsTick upto }
     ensures { (t : ℕ) → from ≤ t → t ≤ upto → IsWithin result t (Some (cells.Dyn vector.now)) }
 {
     let (least, greatest) = vector.range(from, upto);

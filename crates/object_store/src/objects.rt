@@ -1,11 +1,11 @@
 //! The objects of a store and their timelines.
-ghost use Rattle.std.specs.Prelude.{◌≡◌, ◌<◌, ◌≤◌, ◌-◌, ◌^◌, ◌==◌, ◌++◌, ◌∷◌, [], not, true, false, Some, None, All, is_some, length, take, slice_get, vec_len, IfSome, IfOk, OnOk, OnErr};
+ghost use Rattle.std.specs.Prelude.{◌≡◌, ◌<◌, ◌-◌, ◌^◌, ◌==◌, ◌++◌, ◌∷◌, [], not, true, false, Some, None, All, is_some, length, take, slice_get, vec_len, IfSome, IfOk, OnOk, OnErr};
 ghost use Rattle.std.specs.List.{find, position};
 ghost use Rattle.std.specs.Option.{option_map};
 ghost use Rattle.indexmap.specs.IndexMap.{index_map_len};
 ghost use Rattle.motion.specs.Cells.{AreCellsAt, AreChanges, changed};
 ghost use Rattle.motion.specs.Timeline.{state_at, AreBegunBy, StandsAsLeft};
-ghost use Rattle.tick_set.specs.declared.spans.TheConstants.{LAST_TICK};
+ghost use Rattle.tick_set.specs.Ticks.{IsTick};
 ghost use Rattle.object_store.specs.Contents.{StoredObject, is_named, is_present_at};
 ghost use Rattle.object_store.specs.ObjectView.{objects_of};
 ghost use Rattle.object_store.specs.Ids.{with_member, without_member};
@@ -17,7 +17,6 @@ use fixed_point::Word;
 use indexmap::IndexMap;
 use motion::{Cell, Epoch, Given, Timeline};
 use std::alloc::AllocError;
-use tick_set::LAST_TICK;
 
 /// The number of an object, from 0 in the order of first insertion.
 pub type ObjectId = u32;
@@ -74,7 +73,7 @@ pub fn begin_at(
     cells: Vec<Cell>,
 ) -> Result<Option<Epoch>, AllocError>
     requires index { index < index_map_len objects.old }
-    requires tick { now ≤ LAST_TICK }
+    requires tick { IsTick now }
     requires after { All (λ o. AreBegunBy o.epochs now) (objects_of objects.old.entries) }
     requires written { AreCellsAt cells.items now }
     ensures ok { IfOk result (λ replaced. GainsEpochAt index (λ _. record { from = now; cells = Some cells.items }) replaced (objects_of objects.old.entries) (objects_of objects.new.entries)) }
@@ -92,7 +91,7 @@ pub fn write_at(
     changes: &[(usize, Given)],
 ) -> Result<Option<Epoch>, AllocError>
     requires index { index < index_map_len objects.old }
-    requires tick { now ≤ LAST_TICK }
+    requires tick { IsTick now }
     requires after { All (λ o. AreBegunBy o.epochs now) (objects_of objects.old.entries) }
     requires given { AreChanges changes.now }
     ensures ok { IfOk result (λ replaced. GainsEpochAt index (λ epochs. record { from = now; cells = option_map (changed now changes.now) (state_at epochs now) }) replaced (objects_of objects.old.entries) (objects_of objects.new.entries)) }
@@ -105,7 +104,7 @@ pub fn write_at(
 /// The object of an index is absent from tick `now` on.
 pub fn vanish_at(objects: &mut Objects, index: usize, now: u32) -> Result<Option<Epoch>, AllocError>
     requires index { index < index_map_len objects.old }
-    requires tick { now ≤ LAST_TICK }
+    requires tick { IsTick now }
     requires after { All (λ o. AreBegunBy o.epochs now) (objects_of objects.old.entries) }
     ensures ok { IfOk result (λ replaced. GainsEpochAt index (λ _. record { from = now; cells = None }) replaced (objects_of objects.old.entries) (objects_of objects.new.entries)) }
     ensures err { OnErr result (objects_of objects.new.entries ≡ objects_of objects.old.entries) }

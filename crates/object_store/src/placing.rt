@@ -2,10 +2,9 @@
 ghost use Rattle.std.specs.Prelude.{◌≡◌, ◌<◌, ◌≤◌, ◌-◌, ◌^◌, All, IfErr, IfOk, OnErr, OnOk, false, is_some, length, take};
 ghost use Rattle.indexmap.specs.IndexMap.{index_map_len};
 ghost use Rattle.motion.specs.Timeline.{AreBegunBy};
-ghost use Rattle.tick_set.specs.declared.spans.TheConstants.{LAST_TICK};
 ghost use Rattle.object_store.specs.declared.fault.StoreFault.TheVariants.{NoMemory};
 ghost use Rattle.object_store.specs.Changes.{AreGiven};
-ghost use Rattle.object_store.specs.Contents.{catalog_of, state_of};
+ghost use Rattle.object_store.specs.Contents.{CanWriteAt, catalog_of, state_of};
 ghost use Rattle.object_store.specs.Effects.{after_insert, after_remove, after_update};
 ghost use Rattle.object_store.specs.Faults.{insert_fault, remove_fault, update_fault};
 ghost use Rattle.object_store.specs.Invariant.{IsKept, WritesNamed};
@@ -21,7 +20,6 @@ use fixed_point::Word;
 use motion::{NamedSet, Place};
 use places::Places;
 use std::alloc::AllocError;
-use tick_set::LAST_TICK;
 
 /// Inserts an object.
 pub fn insert_placed(
@@ -35,8 +33,7 @@ pub fn insert_placed(
 ) -> Result<Done, StoreFault>
     requires kept { IsKept (members_of tables.old) (contents_of tables.old) }
     requires placed { ArePlaced places.old (contents_of tables.old).objects }
-    requires tick { now ≤ LAST_TICK }
-    requires after { tables.old.last_tick ≤ now }
+    requires now { CanWriteAt (contents_of tables.old) now }
     requires given { AreGiven place.now sets.now }
     ensures ok { IfOk result (WritesNamed name.now (contents_of tables.old)
         (after_insert (contents_of tables.old) now class.now name.now place.now sets.now) (members_of tables.new) (contents_of tables.new)) }
@@ -61,8 +58,7 @@ pub fn update_placed(
 ) -> Result<Done, StoreFault>
     requires kept { IsKept (members_of tables.old) (contents_of tables.old) }
     requires placed { ArePlaced places.old (contents_of tables.old).objects }
-    requires tick { now ≤ LAST_TICK }
-    requires after { tables.old.last_tick ≤ now }
+    requires now { CanWriteAt (contents_of tables.old) now }
     requires given { AreGiven place.now sets.now }
     ensures ok { IfOk result (WritesNamed name.now (contents_of tables.old)
         (after_update (contents_of tables.old) now name.now place.now sets.now) (members_of tables.new) (contents_of tables.new)) }
@@ -86,8 +82,7 @@ pub fn remove_placed(
 ) -> Result<Done, StoreFault>
     requires kept { IsKept (members_of tables.old) (contents_of tables.old) }
     requires placed { ArePlaced places.old (contents_of tables.old).objects }
-    requires tick { now ≤ LAST_TICK }
-    requires after { tables.old.last_tick ≤ now }
+    requires now { CanWriteAt (contents_of tables.old) now }
     ensures ok { IfOk result (WritesNamed name.now (contents_of tables.old)
         (after_remove (contents_of tables.old) now name.now) (members_of tables.new) (contents_of tables.new)) }
     ensures judged { IsJudged (remove_fault (catalog_of (contents_of tables.old)) (is_some (state_of (contents_of tables.old) name.now now)) name.now) result }

@@ -3,14 +3,14 @@ ghost use Rattle.std.specs.Prelude.{◌≡◌, ◌+◌, ◌<◌, ◌≤◌, ℕ,
 ghost use Rattle.std.specs.List.{position};
 ghost use Rattle.std.specs.Option.{option_copied, option_map, option_map_or};
 ghost use Rattle.motion.specs.Timeline.{state_at};
-ghost use Rattle.tick_set.specs.declared.spans.TheConstants.{LAST_TICK};
+ghost use Rattle.motion.specs.Cells.{AreFewAttributes, IsCapacity};
 ghost use Rattle.history.specs.Catalog.{ids_of, names};
 ghost use Rattle.history.specs.History.{cells_at, ChangesFrom};
 ghost use Rattle.history.specs.Write.{Class as ClassWrite, Insert, Update, Remove};
 ghost use Rattle.object_store.specs.declared.fault.StoreFault.TheVariants.{NoMemory};
 ghost use Rattle.object_store.specs.Areas.{is_in_area, is_told, AreNear};
 ghost use Rattle.object_store.specs.Changes.{AreGiven};
-ghost use Rattle.object_store.specs.Contents.{catalog_of, is_named, empty_contents, history_of, is_present_at, ids_in, object_name, state_of};
+ghost use Rattle.object_store.specs.Contents.{catalog_of, is_named, empty_contents, history_of, is_present_at, ids_in, object_name, state_of, CanWriteAt, HasNoWriteAfter, IsNamedAt};
 ghost use Rattle.object_store.specs.Effects.{with_class, after_insert, after_update, after_remove};
 ghost use Rattle.object_store.specs.Faults.{class_fault, insert_fault, update_fault, remove_fault};
 ghost use Rattle.object_store.specs.Sound.{IsSound};
@@ -29,13 +29,13 @@ use crate::standing::stand;
 use crate::tables::Tables;
 use fixed_point::Word;
 use indexmap::IndexMap;
-use motion::{ATTRIBUTE_LIMIT, CAPACITY_LIMIT, NamedSet, Place, Timeline};
+use motion::{NamedSet, Place, Timeline};
 use places::Places;
 use std::alloc::{AllocError, Global};
 use std::marker::Model;
 use std::sync::ledger::Ledger;
 use steps::Steps;
-use tick_set::{LAST_TICK, Window};
+use tick_set::Window;
 
 /// Classes, names and timelines. A contract sees the classes in the order of making, the objects in
 /// the order of first insertion, each with the epochs of its timeline, and the tick of the last write.
@@ -96,9 +96,8 @@ impl Store {
         point: bool,
         attrs: &[AttrDef],
     ) -> Result<ClassId, StoreFault>
-        requires some { 0 < capacity }
-        requires limit { capacity ≤ CAPACITY_LIMIT }
-        requires few { length attrs.now ≤ ATTRIBUTE_LIMIT }
+        requires capacity { IsCapacity capacity }
+        requires few { AreFewAttributes attrs.now }
 
         ensures ok { OnOk result (self.new ≡ with_class self.old name capacity point attrs.now) }
         ensures number { IfOk result (λ number. number ≡ length self.old.classes) }
@@ -132,12 +131,11 @@ impl Store {
         place: &Place,
         sets: &[NamedSet],
     ) -> Result<Done, StoreFault>
-        requires tick { now ≤ LAST_TICK }
-        requires after { self.old.last_tick ≤ now }
+        requires now { CanWriteAt self.old now }
         requires given { AreGiven place.now sets.now }
 
         ensures ok { OnOk result (self.new ≡ after_insert self.old now class.now name.now place.now sets.now) }
-        ensures id { IfOk result (λ done. position (is_named name.now) self.new.objects ≡ Some done.id) }
+        ensures id { IfOk result (λ done. IsNamedAt self.new name.now done.id) }
         ensures last { OnOk result (self.new.last_tick ≡ now) }
         ensures stands { OnOk result (GrowsBy self.old self.new (Insert now class.now name.now place.now sets.now)) }
         ensures changes { IfOk result (λ done. ChangesFrom done.id now (history_of self.old) (history_of self.new)) }
@@ -168,12 +166,11 @@ impl Store {
         place: &Place,
         sets: &[NamedSet],
     ) -> Result<Done, StoreFault>
-        requires tick { now ≤ LAST_TICK }
-        requires after { self.old.last_tick ≤ now }
+        requires now { CanWriteAt self.old now }
         requires given { AreGiven place.now sets.now }
 
         ensures ok { OnOk result (self.new ≡ after_update self.old now name.now place.now sets.now) }
-        ensures id { IfOk result (λ done. position (is_named name.now) self.new.objects ≡ Some done.id) }
+        ensures id { IfOk result (λ done. IsNamedAt self.new name.now done.id) }
         ensures last { OnOk result (self.new.last_tick ≡ now) }
         ensures stands { OnOk result (GrowsBy self.old self.new (Update now name.now place.now sets.now)) }
         ensures changes { IfOk result (λ done. ChangesFrom done.id now (history_of self.old) (history_of self.new)) }
@@ -191,11 +188,10 @@ impl Store {
     /// Removes an object at tick `now`, which isn't before the last write's. It keeps its name, its
     /// class and its past.
     pub fn remove(&mut self, now: u32, name: &Word) -> Result<Done, StoreFault>
-        requires tick { now ≤ LAST_TICK }
-        requires after { self.old.last_tick ≤ now }
+        requires { CanWriteAt self.old now }
 
         ensures ok { OnOk result (self.new ≡ after_remove self.old now name.now) }
-        ensures id { IfOk result (λ done. position (is_named name.now) self.new.objects ≡ Some done.id) }
+        ensures id { IfOk result (λ done. IsNamedAt self.new name.now done.id) }
         ensures last { OnOk result (self.new.last_tick ≡ now) }
         ensures stands { OnOk result (GrowsBy self.old self.new (Remove now name.now)) }
         ensures changes { IfOk result (λ done. ChangesFrom done.id now (history_of self.old) (history_of self.new)) }
@@ -322,7 +318,7 @@ impl Store {
     /// An area in which an object is over a window that doesn't begin before the tick of the last write. None where the
     /// object is absent. It looks at no timeline.
     pub fn whereabouts(&self, id: ObjectId, w: Window) -> Option<Area>
-        requires after { self.now.last_tick ≤ w.lo }
+        requires after { HasNoWriteAfter self.now w.lo }
         ensures { (t : ℕ) → w.lo ≤ t → t ≤ w.hi → is_told result t (cells_at (history_of self.now) id t) ≡ true }
     {
         whereabouts(&self.tables.objects, id, w)

@@ -1,11 +1,10 @@
 //! The tables of a store: its classes, and its objects with the ids of each class.
-ghost use Rattle.std.specs.Prelude.{◌≡◌, ◌<◌, ◌≤◌, Some, None, false, true, is_some, nat_le, length, slice_get, IfSome, IfOk, OnOk, OnErr};
+ghost use Rattle.std.specs.Prelude.{◌≡◌, ◌<◌, Some, None, false, true, is_some, nat_le, length, slice_get, IfSome, IfOk, OnOk, OnErr};
 ghost use Rattle.std.specs.List.{find, position};
 ghost use Rattle.std.specs.Str.{bytes_eq};
-ghost use Rattle.motion.specs.Cells.{AreCellsAt};
-ghost use Rattle.tick_set.specs.declared.spans.TheConstants.{LAST_TICK};
+ghost use Rattle.motion.specs.Cells.{AreCellsAt, AreFewAttributes, IsCapacity};
 ghost use Rattle.object_store.specs.Changes.{AreGiven};
-ghost use Rattle.object_store.specs.Contents.{attributes_of_number, catalog_of, is_named, state_of};
+ghost use Rattle.object_store.specs.Contents.{CanWriteAt, HasNoWriteAfter, IsNamedAt, attributes_of_number, catalog_of, is_named, state_of};
 ghost use Rattle.object_store.specs.Effects.{with_class, with_object, with_epoch_of, after_insert, after_update, after_remove};
 ghost use Rattle.object_store.specs.Faults.{class_fault, fault_of_class, insert_fault, update_fault, remove_fault};
 ghost use Rattle.object_store.specs.Invariant.{HasFreeName, IsKept, WritesNamed};
@@ -24,9 +23,8 @@ use crate::objects::{
 };
 use crate::schema::{CLASS_LIMIT, ClassId, Schema};
 use fixed_point::Word;
-use motion::{ATTRIBUTE_LIMIT, CAPACITY_LIMIT, Cell, NamedSet, Place, Timeline};
+use motion::{Cell, NamedSet, Place, Timeline};
 use std::alloc::{AllocError, Global};
-use tick_set::LAST_TICK;
 
 #[derive(Drop)]
 pub struct Tables {
@@ -51,9 +49,8 @@ impl Tables {
         attrs: &[AttrDef],
     ) -> Result<ClassId, StoreFault>
         requires kept { IsKept (members_of self.old) (contents_of self.old) }
-        requires some { 0 < capacity }
-        requires limit { capacity ≤ CAPACITY_LIMIT }
-        requires few { length attrs.now ≤ ATTRIBUTE_LIMIT }
+        requires capacity { IsCapacity capacity }
+        requires few { AreFewAttributes attrs.now }
         ensures ok { OnOk result (contents_of self.new ≡ with_class (contents_of self.old) name capacity point attrs.now) }
         ensures kept { OnOk result (IsKept (members_of self.new) (contents_of self.new)) }
         ensures number { IfOk result (λ number. number ≡ length (contents_of self.old).classes) }
@@ -76,9 +73,8 @@ impl Tables {
         attrs: &[AttrDef],
     ) -> Result<ClassId, AllocError>
         requires kept { IsKept (members_of self.old) (contents_of self.old) }
-        requires some { 0 < capacity }
-        requires limit { capacity ≤ CAPACITY_LIMIT }
-        requires few { length attrs.now ≤ ATTRIBUTE_LIMIT }
+        requires capacity { IsCapacity capacity }
+        requires few { AreFewAttributes attrs.now }
         requires accepted { fault_of_class self.old.schema name point attrs.now ≡ None }
         ensures ok { OnOk result (contents_of self.new ≡ with_class (contents_of self.old) name capacity point attrs.now) }
         ensures kept { OnOk result (IsKept (members_of self.new) (contents_of self.new)) }
@@ -114,8 +110,7 @@ impl Tables {
         sets: &[NamedSet],
     ) -> Result<Done, StoreFault>
         requires kept { IsKept (members_of self.old) (contents_of self.old) }
-        requires tick { now ≤ LAST_TICK }
-        requires after { self.old.last_tick ≤ now }
+        requires now { CanWriteAt (contents_of self.old) now }
         requires given { AreGiven place.now sets.now }
         ensures ok { IfOk result (WritesNamed name.now (contents_of self.old)
             (after_insert (contents_of self.old) now class.now name.now place.now sets.now) (members_of self.new) (contents_of self.new)) }
@@ -146,7 +141,7 @@ impl Tables {
         sets: &[NamedSet],
     ) -> Option<StoreFault>
         requires kept { IsKept (members_of self.now) (contents_of self.now) }
-        requires after { self.now.last_tick ≤ now }
+        requires after { HasNoWriteAfter (contents_of self.now) now }
         requires class { position (λ k. bytes_eq class.now k.name) self.now.schema ≡ Some number }
         requires name { at ≡ position (is_named name.now) (contents_of self.now).objects }
         ensures { result ≡ insert_fault (catalog_of (contents_of self.now))
@@ -177,8 +172,7 @@ impl Tables {
         sets: &[NamedSet],
     ) -> Result<Done, AllocError>
         requires kept { IsKept (members_of self.old) (contents_of self.old) }
-        requires tick { now ≤ LAST_TICK }
-        requires after { self.old.last_tick ≤ now }
+        requires now { CanWriteAt (contents_of self.old) now }
         requires given { AreGiven place.now sets.now }
         requires class { position (λ k. bytes_eq class.now k.name) self.old.schema ≡ Some number }
         requires name { at ≡ position (is_named name.now) (contents_of self.old).objects }
@@ -207,11 +201,10 @@ impl Tables {
         cells: Vec<Cell>,
     ) -> Result<Done, AllocError>
         requires kept { IsKept (members_of self.old) (contents_of self.old) }
-        requires tick { now ≤ LAST_TICK }
-        requires after { self.old.last_tick ≤ now }
+        requires now { CanWriteAt (contents_of self.old) now }
         requires written { AreCellsAt cells.items now }
         requires fits { AreCellsOf (attributes_of_number self.old.schema number) cells.items }
-        requires name { position (is_named name.now) (contents_of self.old).objects ≡ Some at }
+        requires name { IsNamedAt (contents_of self.old) name.now at }
         requires class { IfSome (slice_get (contents_of self.old).objects at) (λ o. o.class ≡ number) }
         ensures ok { IfOk result (WritesNamed name.now (contents_of self.old)
             (with_epoch_of (contents_of self.old) name.now (record { from = now; cells = Some cells.items })) (members_of self.new) (contents_of self.new)) }
@@ -232,8 +225,7 @@ impl Tables {
         cells: Vec<Cell>,
     ) -> Result<Done, AllocError>
         requires kept { IsKept (members_of self.old) (contents_of self.old) }
-        requires tick { now ≤ LAST_TICK }
-        requires after { self.old.last_tick ≤ now }
+        requires now { CanWriteAt (contents_of self.old) now }
         requires written { AreCellsAt cells.items now }
         requires fits { AreCellsOf (attributes_of_number self.old.schema number) cells.items }
         requires name { find (is_named name.now) (contents_of self.old).objects ≡ None }
@@ -259,8 +251,7 @@ impl Tables {
         sets: &[NamedSet],
     ) -> Result<Done, StoreFault>
         requires kept { IsKept (members_of self.old) (contents_of self.old) }
-        requires tick { now ≤ LAST_TICK }
-        requires after { self.old.last_tick ≤ now }
+        requires now { CanWriteAt (contents_of self.old) now }
         requires given { AreGiven place.now sets.now }
         ensures ok { IfOk result (WritesNamed name.now (contents_of self.old)
             (after_update (contents_of self.old) now name.now place.now sets.now) (members_of self.new) (contents_of self.new)) }
@@ -289,8 +280,8 @@ impl Tables {
         sets: &[NamedSet],
     ) -> Option<StoreFault>
         requires kept { IsKept (members_of self.now) (contents_of self.now) }
-        requires after { self.now.last_tick ≤ now }
-        requires name { position (is_named name.now) (contents_of self.now).objects ≡ Some at }
+        requires after { HasNoWriteAfter (contents_of self.now) now }
+        requires name { IsNamedAt (contents_of self.now) name.now at }
         ensures { result ≡ update_fault (catalog_of (contents_of self.now))
             (is_some (state_of (contents_of self.now) name.now now)) name.now place.now sets.now }
     {
@@ -309,10 +300,9 @@ impl Tables {
         sets: &[NamedSet],
     ) -> Result<Done, AllocError>
         requires kept { IsKept (members_of self.old) (contents_of self.old) }
-        requires tick { now ≤ LAST_TICK }
-        requires after { self.old.last_tick ≤ now }
+        requires now { CanWriteAt (contents_of self.old) now }
         requires given { AreGiven place.now sets.now }
-        requires name { position (is_named name.now) (contents_of self.old).objects ≡ Some at }
+        requires name { IsNamedAt (contents_of self.old) name.now at }
         ensures ok { IfOk result (WritesNamed name.now (contents_of self.old)
             (after_update (contents_of self.old) now name.now place.now sets.now) (members_of self.new) (contents_of self.new)) }
         ensures known { IfOk result (λ done. done.undo.is_new ≡ false) }
@@ -329,8 +319,7 @@ impl Tables {
     /// Removes an object.
     pub fn remove(&mut self, now: u32, name: &Word) -> Result<Done, StoreFault>
         requires kept { IsKept (members_of self.old) (contents_of self.old) }
-        requires tick { now ≤ LAST_TICK }
-        requires after { self.old.last_tick ≤ now }
+        requires now { CanWriteAt (contents_of self.old) now }
         ensures ok { IfOk result (WritesNamed name.now (contents_of self.old)
             (after_remove (contents_of self.old) now name.now) (members_of self.new) (contents_of self.new)) }
         ensures judged { IsJudged (remove_fault (catalog_of (contents_of self.old)) (is_some (state_of (contents_of self.old) name.now now)) name.now) result }
@@ -350,8 +339,8 @@ impl Tables {
     /// The first fault of a removal of the object of an index.
     fn judge_remove(&self, now: u32, name: &Word, at: usize) -> Option<StoreFault>
         requires kept { IsKept (members_of self.now) (contents_of self.now) }
-        requires after { self.now.last_tick ≤ now }
-        requires name { position (is_named name.now) (contents_of self.now).objects ≡ Some at }
+        requires after { HasNoWriteAfter (contents_of self.now) now }
+        requires name { IsNamedAt (contents_of self.now) name.now at }
         ensures { result ≡ remove_fault (catalog_of (contents_of self.now)) (is_some (state_of (contents_of self.now) name.now now)) name.now }
     {
         if self.objects[at].is_present(now) {
@@ -364,9 +353,8 @@ impl Tables {
     /// Removes the object of an index.
     fn write_remove(&mut self, now: u32, name: &Word, at: usize) -> Result<Done, AllocError>
         requires kept { IsKept (members_of self.old) (contents_of self.old) }
-        requires tick { now ≤ LAST_TICK }
-        requires after { self.old.last_tick ≤ now }
-        requires name { position (is_named name.now) (contents_of self.old).objects ≡ Some at }
+        requires now { CanWriteAt (contents_of self.old) now }
+        requires name { IsNamedAt (contents_of self.old) name.now at }
         ensures ok { IfOk result (WritesNamed name.now (contents_of self.old)
             (after_remove (contents_of self.old) now name.now) (members_of self.new) (contents_of self.new)) }
         ensures known { IfOk result (λ done. done.undo.is_new ≡ false) }

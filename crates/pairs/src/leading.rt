@@ -1,6 +1,7 @@
 //! Motions along lines of which one, as the other sees it, leads past this one.
 ghost use Rattle.std.specs.Prelude.{◌≡◌, ◌+◌, ◌*◌, ◌≤◌, ℕ, true, pos, ◌-ℤ◌, ◌*ℤ◌, ◌≤ℤ◌, ◌<ℤ◌, unsigned_abs};
 ghost use Rattle.fixed_point.specs.declared.number.TheConstants.{FIX_LIMIT, SLOPE_LIMIT};
+ghost use Rattle.fixed_point.specs.Sizes.{IsFixDifference, IsSlopeDifference};
 ghost use Rattle.geometry.specs.Plane.{square};
 ghost use Rattle.linear_crossing.specs.Moving.{distance_after};
 
@@ -25,7 +26,7 @@ pub(crate) fn leads_past(p: &Line, q: &Line, c: Fix) -> bool
 #[inline]
 fn step_apart(a: Slope, b: Slope) -> i64
     ensures value { result ≡ a -ℤ b }
-    ensures size { unsigned_abs result ≤ 2 * SLOPE_LIMIT }
+    ensures size { IsSlopeDifference result }
 {
     i64::from(a.raw()) - i64::from(b.raw())
 }
@@ -33,10 +34,10 @@ fn step_apart(a: Slope, b: Slope) -> i64
 // The size of the cross product of a place and a step.
 #[inline]
 fn turn(x: i64, y: i64, dx: i64, dy: i64) -> u128
-    requires x_size { unsigned_abs x ≤ 2 * FIX_LIMIT }
-    requires y_size { unsigned_abs y ≤ 2 * FIX_LIMIT }
-    requires dx_size { unsigned_abs dx ≤ 2 * SLOPE_LIMIT }
-    requires dy_size { unsigned_abs dy ≤ 2 * SLOPE_LIMIT }
+    requires x_size { IsFixDifference x }
+    requires y_size { IsFixDifference y }
+    requires dx_size { IsSlopeDifference dx }
+    requires dy_size { IsSlopeDifference dy }
     ensures { result ≡ unsigned_abs (x *ℤ dy -ℤ y *ℤ dx) }
 {
     let left = crossed(x, dy);
@@ -47,8 +48,8 @@ fn turn(x: i64, y: i64, dx: i64, dy: i64) -> u128
 // The product of a coordinate of a place and one of a step.
 #[inline]
 fn crossed(a: i64, step: i64) -> i128
-    requires a_size { unsigned_abs a ≤ 2 * FIX_LIMIT }
-    requires step_size { unsigned_abs step ≤ 2 * SLOPE_LIMIT }
+    requires a_size { IsFixDifference a }
+    requires step_size { IsSlopeDifference step }
     ensures value { result ≡ a *ℤ step }
     ensures size { unsigned_abs result ≤ 4 * FIX_LIMIT * SLOPE_LIMIT }
 {
@@ -58,8 +59,8 @@ fn crossed(a: i64, step: i64) -> i128
 // The size of `c` times that of a step along both axes.
 #[inline]
 fn width(c: Fix, dx: i64, dy: i64) -> u128
-    requires dx_size { unsigned_abs dx ≤ 2 * SLOPE_LIMIT }
-    requires dy_size { unsigned_abs dy ≤ 2 * SLOPE_LIMIT }
+    requires dx_size { IsSlopeDifference dx }
+    requires dy_size { IsSlopeDifference dy }
     ensures { result ≡ unsigned_abs c * (unsigned_abs dx + unsigned_abs dy) }
 {
     u128::from(c.raw().unsigned_abs()) * u128::from(dx.unsigned_abs() + dy.unsigned_abs())

@@ -4,6 +4,8 @@ ghost use Rattle.geometry.specs.Plane.{square};
 ghost use Rattle.linear_crossing.specs.Moving.{IsInReach, distance_after};
 ghost use Rattle.pairs.specs.Pairs.{AreApart, IsMover};
 ghost use Rattle.pairs.specs.Reach.{IsReachedAt};
+ghost use Rattle.object_store.specs.Contents.{IsObjectId};
+ghost use Rattle.steps.specs.Counting.{StepsAtMost};
 
 use crate::leading::leads_past;
 use crate::reach::Reach;
@@ -42,8 +44,7 @@ pub(crate) fn movers_of<L: Ledger>(
     requires { All (λ id. id < length store.now.objects) ids.now }
     ensures ids { IfOk result (λ movers. map (λ m. m.id) movers.items ≡ ids.now) }
     ensures movers { IfOk result (λ movers. All (IsMover store.now w.lo w.hi) movers.items) }
-    ensures least { reads.old ≤ reads.new }
-    ensures most { reads.new ≤ reads.old + length ids.now }
+    ensures reads { StepsAtMost reads.old reads.new (length ids.now) }
 {
     let mut movers = Vec::with_capacity(alloc, ids.len())?;
     'ids: for id in ids {
@@ -61,7 +62,7 @@ pub(crate) fn mover_of<L: Ledger>(
     w: Window,
     reads: &mut Steps<L>,
 ) -> Mover
-    requires { id < length store.now.objects }
+    requires { IsObjectId store.now id }
     ensures id { result.id ≡ id }
     ensures mover { IsMover store.now w.lo w.hi result }
     ensures step { reads.new ≡ reads.old + 1 }

@@ -1,5 +1,5 @@
 //! The rows of pairs.
-ghost use Rattle.std.specs.Prelude.{◌≡◌, ◌+◌, ◌*◌, ◌<◌, ◌≤◌, [], ◌∷◌, true, All, IfOk, OnOk, length};
+ghost use Rattle.std.specs.Prelude.{◌≡◌, ◌*◌, ◌<◌, [], ◌∷◌, true, All, IfOk, OnOk, length};
 ghost use Rattle.std.specs.List.{list_all};
 ghost use Rattle.tick_set.specs.Runs.{spans_have};
 ghost use Rattle.relation.specs.Frames.{domain_size};
@@ -9,6 +9,7 @@ ghost use Rattle.evaluator.specs.Keys.{AreAscendingKeys};
 ghost use Rattle.evaluator.specs.Rows.{AreRowsWhere};
 ghost use Rattle.evaluator.specs.inner.Filled.{IsFilled, keys_behind};
 ghost use Rattle.pairs.specs.Pairs.{AreStored, CanAskDistance, IsMover, atom_at, holds_in, keys_of, pair_reads};
+ghost use Rattle.steps.specs.Counting.{StepsAtMost};
 
 use crate::distance::Distance;
 use crate::movers::{Mover, are_apart, mover_of, movers_of};
@@ -45,8 +46,7 @@ pub fn rows_of_pairs<'d, L: Ledger, M: Ledger>(
     requires stored { AreStored scene.now.world.store.now d.now }
     ensures rows { IfOk result (λ r. AreRowsWhere spans_have d.now scene.now.w.lo scene.now.w.hi (0 ∷ 1 ∷ [])
         (atom_at scene.now.world.store.now scene.now.world.regions.now scene.now.distance.atom.now) r) }
-    ensures least { reads.old ≤ reads.new }
-    ensures most { reads.new ≤ reads.old + pair_reads (domain_size d.now) }
+    ensures reads { StepsAtMost reads.old reads.new (pair_reads (domain_size d.now)) }
 {
     let store = scene.world.store;
     let movers = movers_of(alloc, d.of(1), store, scene.w, reads)?;
@@ -77,8 +77,7 @@ fn put_near<'d, L: Ledger, M: Ledger>(
     requires ascend { AreAscendingKeys (keys_of movers.now) }
     requires above { list_all (λ r. key_below r.key (one.now.id ∷ [])) made.old.rows ≡ true }
     ensures rows { OnOk result (IsFilled spans_have (holds_in scene.now) (keys_behind one.now.id (keys_of movers.now)) made.old made.new) }
-    ensures least { reads.old ≤ reads.new }
-    ensures most { reads.new ≤ reads.old + length movers.now * 2 }
+    ensures reads { StepsAtMost reads.old reads.new (length movers.now * 2) }
 {
     'others: for other in movers {
         put_unless_apart(alloc, scene, one, other, made, reads, probes)?;
@@ -104,8 +103,7 @@ fn put_unless_apart<'d, L: Ledger, M: Ledger>(
     requires inside { key_in made.old.domains (0 ∷ 1 ∷ []) (one.now.id ∷ other.now.id ∷ []) ≡ true }
     requires above { list_all (λ r. key_below r.key (one.now.id ∷ other.now.id ∷ [])) made.old.rows ≡ true }
     ensures rows { OnOk result (IsFilled spans_have (holds_in scene.now) ((one.now.id ∷ other.now.id ∷ []) ∷ []) made.old made.new) }
-    ensures least { reads.old ≤ reads.new }
-    ensures most { reads.new ≤ reads.old + 2 }
+    ensures reads { StepsAtMost reads.old reads.new 2 }
 {
     if are_apart(one, other, scene.distance.most) {
         return Ok(());
@@ -130,8 +128,7 @@ fn put_pair<'d, L: Ledger, M: Ledger>(
     requires inside { key_in made.old.domains (0 ∷ 1 ∷ []) (one ∷ other ∷ []) ≡ true }
     requires above { list_all (λ r. key_below r.key (one ∷ other ∷ [])) made.old.rows ≡ true }
     ensures rows { OnOk result (IsFilled spans_have (holds_in scene.now) ((one ∷ other ∷ []) ∷ []) made.old made.new) }
-    ensures least { reads.old ≤ reads.new }
-    ensures most { reads.new ≤ reads.old + 2 }
+    ensures reads { StepsAtMost reads.old reads.new 2 }
 {
     let key = key_of(one, other);
     let world = &scene.world;

@@ -3,6 +3,7 @@ use Rattle.std.specs.Prelude.{◌≡◌, ◌⊎◌, ℕ, zero, suc, ◌*◌, ◌
 use Rattle.places.specs.declared.patch.Patch.{Patch}
 use Rattle.places.specs.declared.boxes.TheConstants.{BLOCK}
 use Rattle.places.specs.Patches.{HasPatch, empty_patch, joined, meets}
+use Rattle.exact.specs.Lists.{SameLength}
 
 -- the patches by the numbers of their objects, and the last tick up to which they tell where those are
 pub record Horizon : Type 0 where
@@ -76,3 +77,11 @@ pub record AreFound (n : ℕ) (covers : List Patch) (numbers : List ℕ) (patche
   pub sound : (k : ℕ) → Contains found k → IsNear patches area k
   pub whole : (s : ℕ) → s < n → s < length numbers → HasPatch (patch_at covers (s / BLOCK)) (patch_at patches (slice_index numbers s))
       → IsNear patches area (slice_index numbers s) → Contains found (slice_index numbers s)
+
+-- the patches have slots, and their slots covers
+pub record AreCoverable (patches : List Patch) (slots : List ℕ) (covers : List Patch) : Type 0 where
+  pub few : length patches ≤ 2 ^ 32
+  pub blocks : length covers ≤ 2 ^ 32
+  pub room : length patches ≤ BLOCK * length covers
+  pub long : SameLength slots patches
+  pub within : (k : ℕ) → k < length patches → slice_index slots k < length patches

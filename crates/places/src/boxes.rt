@@ -1,8 +1,9 @@
 //! The patches of all objects for one horizon.
-ghost use Rattle.std.specs.Prelude.{◌≡◌, ℕ, ◌+◌, ◌-◌, ◌*◌, ◌^◌, ◌<◌, ◌≤◌, ◌++◌, ◌∷◌, [], length, slice_index, slice_set, take, IfOk, OnOk, OnErr};
+ghost use Rattle.std.specs.Prelude.{◌≡◌, ◌+◌, ◌-◌, ◌*◌, ◌^◌, ◌<◌, ◌≤◌, ◌++◌, ◌∷◌, [], length, slice_set, take, IfOk, OnOk, OnErr};
 ghost use Rattle.std.specs.Bool.{OnFalse, OnTrue};
-ghost use Rattle.places.specs.Boxes.{covers_with, numbers_near, patch_at, AddsFound, AreCovers, AreFound, IsNear};
+ghost use Rattle.places.specs.Boxes.{covers_with, numbers_near, patch_at, AddsFound, AreCovers, AreFound, IsNear, AreCoverable};
 ghost use Rattle.places.specs.Patches.{joined};
+ghost use Rattle.exact.specs.Lists.{SameLength};
 
 use crate::order::order_from;
 use crate::patch::Patch;
@@ -253,11 +254,7 @@ fn cover_next(covers: &mut Vec<Patch>, block: usize, patch: &Patch) -> Result<()
 
 /// Makes covers as small as they can be.
 fn cover_all(covers: &mut Vec<Patch>, patches: &[Patch], slots: &[u32])
-    requires few { length patches.now ≤ 2 ^ 32 }
-    requires blocks { length covers.old.items ≤ 2 ^ 32 }
-    requires room { length patches.now ≤ BLOCK * length covers.old.items }
-    requires long { length slots.now ≡ length patches.now }
-    requires within { (k : ℕ) → k < length patches.now → slice_index slots.now k < length patches.now }
+    requires { AreCoverable patches.now slots.now covers.old.items }
     ensures { AreCovers covers.new.items patches.now slots.now }
 {
     clear(covers);
@@ -266,7 +263,7 @@ fn cover_all(covers: &mut Vec<Patch>, patches: &[Patch], slots: &[u32])
 
 /// Each cover is nowhere.
 fn clear(covers: &mut Vec<Patch>)
-    ensures { length covers.new.items ≡ length covers.old.items }
+    ensures { SameLength covers.new.items covers.old.items }
 {
     for cover in covers.iter_mut() {
         *cover = Patch::nowhere();
@@ -275,11 +272,7 @@ fn clear(covers: &mut Vec<Patch>)
 
 /// Widens the covers by all patches of their blocks.
 fn cover(covers: &mut Vec<Patch>, patches: &[Patch], slots: &[u32])
-    requires few { length patches.now ≤ 2 ^ 32 }
-    requires blocks { length covers.old.items ≤ 2 ^ 32 }
-    requires room { length patches.now ≤ BLOCK * length covers.old.items }
-    requires long { length slots.now ≡ length patches.now }
-    requires within { (k : ℕ) → k < length patches.now → slice_index slots.now k < length patches.now }
+    requires { AreCoverable patches.now slots.now covers.old.items }
     ensures { AreCovers covers.new.items patches.now slots.now }
 {
     'numbers: for (number, patch) in patches.iter().enumerate() {

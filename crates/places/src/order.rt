@@ -1,6 +1,7 @@
 //! The numbers of patches in the order of where those are.
-ghost use Rattle.std.specs.Prelude.{◌≡◌, ◌^◌, ◌≤◌, length, IsPermutation};
+ghost use Rattle.std.specs.Prelude.{◌^◌, ◌≤◌, length, IsPermutation};
 ghost use Rattle.places.specs.Boxes.{AreSlots, AreSlotsBut};
+ghost use Rattle.exact.specs.Lists.{SameLength};
 
 use crate::patch::{Extent, Patch};
 use std::cmp::Ordering;
@@ -17,7 +18,7 @@ pub fn order_from(numbers: &mut Vec<u32>, slots: &mut Vec<u32>, patches: &[Patch
     requires few { length slots.old.items ≤ 2 ^ 32 }
     requires start { start ≤ length slots.old.items }
     requires slots { AreSlots slots.old.items numbers.old.items }
-    ensures long { length slots.new.items ≡ length slots.old.items }
+    ensures long { SameLength slots.new.items slots.old.items }
     ensures slots { AreSlots slots.new.items numbers.new.items }
 {
     sort_by_place(&mut numbers[start..], patches);
@@ -28,7 +29,7 @@ pub fn order_from(numbers: &mut Vec<u32>, slots: &mut Vec<u32>, patches: &[Patch
 fn renumber(slots: &mut Vec<u32>, numbers: &[u32], start: usize)
     requires few { length slots.old.items ≤ 2 ^ 32 }
     requires slots { AreSlotsBut start slots.old.items numbers.now }
-    ensures long { length slots.new.items ≡ length slots.old.items }
+    ensures long { SameLength slots.new.items slots.old.items }
     ensures slots { AreSlots slots.new.items numbers.now }
 {
     'slots: for slot in start..numbers.len() {
@@ -41,7 +42,7 @@ fn renumber(slots: &mut Vec<u32>, numbers: &[u32], start: usize)
 
 /// Sorts numbers by where their patches are.
 fn sort_by_place(numbers: &mut [u32], patches: &[Patch])
-    ensures long { length numbers.new ≡ length numbers.old }
+    ensures long { SameLength numbers.new numbers.old }
     ensures same { IsPermutation numbers.old numbers.new }
 {
     numbers.sort_unstable_by(|a, b| by_place(middle_of(patches, *a), middle_of(patches, *b)));

@@ -1,5 +1,5 @@
 -- Which objects of a class an index tells to be candidates for values between two bounds.
-use Rattle.std.specs.Prelude.{ℕ, ◌+◌, ◌*◌, ◌-◌, max, nat_le, ℤ, int_le, int_lt, Bool, false, ◌&&◌, Option, None, Some, option_map, option_and_then, List, [], ◌∷◌, if◌then◌else◌}
+use Rattle.std.specs.Prelude.{ℕ, ◌+◌, ◌*◌, ◌-◌, max, nat_le, ℤ, int_le, int_lt, Bool, false, ◌&&◌, Option, None, Some, option_map, option_and_then, List, [], ◌∷◌, if◌then◌else◌, ◌<◌}
 use Rattle.std.specs.Int.{int_div_euclid, int_max, int_min}
 use Rattle.std.specs.List.{filter, filter_map, fold, list_any}
 use Rattle.std.specs.Option.{option_map_or}
@@ -101,3 +101,7 @@ is_candidate r g lo hi from e id =
 -- the candidates in the order of first insertion, none where the upper bound is below the lower
 abbrev pub candidates : Recorded → Grid → (lo hi : ℤ) → (from e : ℕ) → List ℕ
 candidates r g lo hi from e = if int_lt hi lo then [] else filter (is_candidate r g lo hi from e) (ids_of r.history.catalog g.class)
+
+-- an index has a slice of the number
+abbrev pub IsSlice : ℕ → Type 0
+IsSlice s = s < SLICES

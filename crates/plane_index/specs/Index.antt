@@ -67,3 +67,9 @@ pub record IsTouched (id : ℕ) (old new : Index) : Type 0 where
   pub ids : new.ids ≡ old.ids
   pub fresh : (k : ℕ) → is_fresh new k ≡ (is_fresh old k && not (slice_index old.ids k == id))
   pub strips : (k slice : ℕ) → is_fresh new k ≡ true → slice < SLICES → strips_of_place new k slice ≡ strips_of_place old k slice
+
+-- a place from one to another, before which all from the first on are fresh
+pub record IsPastFresh (states : List Bool) (first until place : ℕ) : Type 0 where
+  pub from : first ≤ place
+  pub end : place ≤ until
+  pub fresh : (k : ℕ) → first ≤ k → k < place → fresh_at states k ≡ true

@@ -1,8 +1,9 @@
 //! The strips of the objects of an index in one slice.
 ghost use Rattle.std.specs.Prelude.{◌≡◌, ◌≤◌, ◌<◌, ◌||◌, ℕ, [], false, length, min, slice_index_or, slice_set};
-ghost use Rattle.plane.specs.declared.limits.TheConstants.{SLICES};
+ghost use Rattle.plane.specs.Boxes.{IsSlice};
 ghost use Rattle.plane_index.specs.Columns.{narrow_at, narrow_meets, IsColumn};
 ghost use Rattle.plane_index.specs.States.{AreWritten};
+ghost use Rattle.exact.specs.Lists.{SameLength};
 
 use crate::cover::Narrow;
 use crate::grid::Grid;
@@ -51,7 +52,7 @@ impl Column {
 
     /// Notes the strips of the objects that it hasn't. Where memory is out it has those of fewer.
     pub fn fill(&mut self, grid: &Grid, states: &[State], s: usize) -> Result<(), AllocError>
-        requires slice { s < SLICES }
+        requires slice { IsSlice s }
         requires written { AreWritten states.now }
         requires right { IsColumn grid.now states.now s self.old }
         ensures { IsColumn grid.now states.now s self.new }
@@ -75,7 +76,7 @@ impl Column {
     /// Marks each place that it has, of as many as there are marks, whose strips share one with these. How many it has.
     pub fn mark(&self, marks: &mut [bool], asked: Narrow) -> usize
         ensures count { result ≡ min (length self.now) (length marks.old) }
-        ensures length { length marks.new ≡ length marks.old }
+        ensures length { SameLength marks.new marks.old }
         ensures marks { (k : ℕ) → k < result → slice_index_or marks.new k false
             ≡ (slice_index_or marks.old k false || narrow_meets (narrow_at self.now k) asked) }
         ensures rest { (k : ℕ) → result ≤ k → slice_index_or marks.new k false ≡ slice_index_or marks.old k false }
@@ -89,7 +90,7 @@ impl Column {
 // Marks the place of each of these strips that share one with others.
 fn mark_each(covers: &[Narrow], marks: &mut [bool], asked: Narrow)
     requires room { length covers.now ≤ length marks.old }
-    ensures length { length marks.new ≡ length marks.old }
+    ensures length { SameLength marks.new marks.old }
     ensures marks { (k : ℕ) → k < length covers.now → slice_index_or marks.new k false
         ≡ (slice_index_or marks.old k false || narrow_meets (narrow_at covers.now k) asked) }
     ensures rest { (k : ℕ) → length covers.now ≤ k → slice_index_or marks.new k false ≡ slice_index_or marks.old k false }

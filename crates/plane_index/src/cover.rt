@@ -1,6 +1,6 @@
 //! Strips from a first to a last one.
-ghost use Rattle.std.specs.Prelude.{◌≡◌, ◌≤◌, Some, None, unsigned_abs};
-ghost use Rattle.fixed_point.specs.declared.number.TheConstants.{FIX_LIMIT};
+ghost use Rattle.std.specs.Prelude.{◌≡◌, Some, None};
+ghost use Rattle.fixed_point.specs.Sizes.{IsFix};
 ghost use Rattle.plane.specs.Boxes.{strips_between, strips_meet};
 ghost use Rattle.plane_index.specs.Columns.{bounded};
 ghost use Rattle.plane_index.specs.Lines.{strips_as};
@@ -34,7 +34,7 @@ impl Cover {
     /// Those of the values between two bounds.
     pub fn between(grid: &Grid, least: Fix, greatest: Fix) -> Cover
         ensures value { strips_as result ≡ strips_between grid.now.width least greatest }
-        ensures size { unsigned_abs result.last ≤ FIX_LIMIT }
+        ensures size { IsFix result.last }
     {
         Cover {
             first: grid.strip(least),

@@ -2,11 +2,12 @@
 ghost use Rattle.std.specs.Prelude.{◌≡◌, ◌+◌, ◌≤◌, ◌<◌, ◌&&◌, ◌||◌, ℕ, nat_le, length, map, take, if◌then◌else◌, IfOk, slice_index, slice_index_or};
 ghost use Rattle.std.specs.List.{filter, list_any};
 ghost use Rattle.tick_set.specs.Ticks.{between};
-ghost use Rattle.plane.specs.Boxes.{last_covered, slice_meets, strips_meet};
+ghost use Rattle.plane.specs.Boxes.{IsSlice, last_covered, slice_meets, strips_meet};
 ghost use Rattle.plane.specs.declared.limits.TheConstants.{SLICES};
 ghost use Rattle.plane_index.specs.Index.{fresh_at};
 ghost use Rattle.plane_index.specs.Lines.{strips_as};
 ghost use Rattle.plane_index.specs.States.{strips_at};
+ghost use Rattle.exact.specs.Lists.{SameLength};
 
 use crate::cover::Cover;
 use crate::states::States;
@@ -41,9 +42,9 @@ pub fn marked(
 // Marks each place whose strips share one with these in one of the slices from the first to the last one.
 fn mark_in(states: &States, first: usize, last: usize, marks: &mut [bool], asked: &Cover)
     requires room { length marks.old ≤ length states.now.states }
-    requires last { last < SLICES }
+    requires last { IsSlice last }
     requires first { first ≤ last }
-    ensures length { length marks.new ≡ length marks.old }
+    ensures length { SameLength marks.new marks.old }
     ensures marks { (k : ℕ) → k < length marks.old → fresh_at marks.new k
         ≡ (fresh_at marks.old k || list_any (λ s. nat_le first s && strips_meet (strips_as asked.now)
         (strips_at states.now.grid states.now.states k s)) (between 0 (last + 1))) }
@@ -61,7 +62,7 @@ pub fn found_among(
     ids: &[ObjectId],
     marks: &[bool],
 ) -> Result<Vec<ObjectId>, AllocError>
-    requires { length marks.now ≡ length ids.now }
+    requires { SameLength marks.now ids.now }
     ensures { IfOk result (λ found. found.items ≡ map (slice_index ids.now) (filter (fresh_at marks.now) (between 0 (length ids.now)))) }
 {
     let mut found = Vec::new(alloc);
@@ -73,10 +74,10 @@ pub fn found_among(
 
 // Puts the objects whose places are marked first. How many they are. It has no branch for a mark, which no one could foretell.
 fn gather(found: &mut [ObjectId], ids: &[ObjectId], marks: &[bool]) -> usize
-    requires room { length found.old ≡ length ids.now }
-    requires marks { length marks.now ≡ length ids.now }
+    requires room { SameLength found.old ids.now }
+    requires marks { SameLength marks.now ids.now }
     ensures count { result ≤ length found.new }
-    ensures length { length found.new ≡ length found.old }
+    ensures length { SameLength found.new found.old }
     ensures found { take result found.new ≡ map (slice_index ids.now) (filter (fresh_at marks.now) (between 0 (length ids.now))) }
 {
     let mut count = 0;

@@ -1,8 +1,8 @@
 //! What an index is of.
-ghost use Rattle.std.specs.Prelude.{◌≡◌, ◌≤◌, ◌<◌, ◌&&◌, nat_le, pos, ◌<ℤ◌, unsigned_abs};
-ghost use Rattle.fixed_point.specs.declared.number.TheConstants.{FIX_LIMIT};
-ghost use Rattle.tick_set.specs.declared.spans.TheConstants.{LAST_TICK};
-ghost use Rattle.plane.specs.Boxes.{last_covered, slice_first, slice_last, strip};
+ghost use Rattle.std.specs.Prelude.{◌≡◌, ◌≤◌, ◌<◌, ◌&&◌, nat_le, pos, ◌<ℤ◌};
+ghost use Rattle.fixed_point.specs.Sizes.{IsFix};
+ghost use Rattle.tick_set.specs.Ticks.{IsTick};
+ghost use Rattle.plane.specs.Boxes.{IsSlice, last_covered, slice_first, slice_last, strip};
 ghost use Rattle.plane.specs.declared.limits.TheConstants.{SLICES};
 
 use fixed_point::Fix;
@@ -75,7 +75,7 @@ impl Grid {
     /// The last tick of the last slice.
     pub fn last(&self) -> u32
         ensures value { result ≡ last_covered self.now }
-        ensures in_range { result ≤ LAST_TICK }
+        ensures in_range { IsTick result }
     {
         self.from + (SLICES * SLICE_TICKS - 1)
     }
@@ -90,7 +90,7 @@ impl Grid {
 
     /// The ticks of a slice.
     pub(crate) fn slice(&self, s: usize) -> Window
-        requires { s < SLICES }
+        requires { IsSlice s }
         ensures { (result.lo ≡ slice_first self.now s) × (result.hi ≡ slice_last self.now s) }
     {
         let lo = self.from + SLICE_TICKS * s as u32;
@@ -103,7 +103,7 @@ impl Grid {
     /// The strip of a value.
     pub(crate) fn strip(&self, value: Fix) -> i64
         ensures value { result ≡ strip self.now.width value }
-        ensures size { unsigned_abs result ≤ FIX_LIMIT }
+        ensures size { IsFix result }
     {
         value.raw().div_euclid(self.width.raw())
     }
@@ -112,7 +112,7 @@ impl Grid {
     pub(crate) fn slice_of(&self, t: u32) -> usize
         requires first { self.now.from ≤ t }
         requires last { t ≤ last_covered self.now }
-        ensures bound { result < SLICES }
+        ensures bound { IsSlice result }
         ensures slice { (slice_first self.now result ≤ t) × (t ≤ slice_last self.now result) }
     {
         ((t - self.from) / SLICE_TICKS) as usize

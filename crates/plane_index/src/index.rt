@@ -1,5 +1,5 @@
 //! The index.
-ghost use Rattle.std.specs.Prelude.{◌≡◌, ◌+◌, ◌≤◌, ◌<◌, ◌==◌, ◌&&◌, ◌||◌, nat_le, ℕ, [], true, false, IfOk, OnErr, OnOk, length, max, take};
+ghost use Rattle.std.specs.Prelude.{◌≡◌, ◌≤◌, ◌<◌, ◌==◌, ◌&&◌, ◌||◌, nat_le, ℕ, [], true, false, IfOk, OnErr, OnOk, length, max, take};
 ghost use Rattle.history.specs.Catalog.{ids_of};
 ghost use Rattle.object_store.specs.Contents.{Contents};
 ghost use Rattle.plane.specs.Boxes.{candidates, last_covered};
@@ -8,6 +8,7 @@ ghost use Rattle.plane.specs.declared.limits.TheConstants.{SLICES};
 ghost use Rattle.plane_index.specs.Held.{IsGrid};
 ghost use Rattle.plane_index.specs.Index.{fresh_at, is_fresh, stale_count, strips_of_place, AreAscendingIds, IsFresh, IsIndexOf, IsTouched};
 ghost use Rattle.plane_index.specs.Told.{recorded_by};
+ghost use Rattle.steps.specs.Counting.{StepsAtMost};
 
 use crate::cover::Cover;
 use crate::finding::{found_among, marked};
@@ -87,8 +88,7 @@ impl PlaneIndex {
         ensures right { IsIndexOf store.now self.new }
         ensures grid { self.new.grid ≡ self.old.grid }
         ensures err { OnErr result (self.new ≡ self.old) }
-        ensures least { reads.old ≤ reads.new }
-        ensures most { reads.new ≤ reads.old + stale_count store.now self.old }
+        ensures reads { StepsAtMost reads.old reads.new (stale_count store.now self.old) }
         ensures unread { OnErr result (reads.new ≡ reads.old) }
     {
         let class = self.states.grid().class();

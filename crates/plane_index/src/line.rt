@@ -1,9 +1,9 @@
 //! A value that moves along a line, and the ticks at which it lies between two bounds.
 ghost use Rattle.std.specs.Prelude.{◌≡◌, ◌≤◌, ◌+◌, ◌-◌, ◌*◌, ℕ, pos, IfSome, ◌+ℤ◌, ◌*ℤ◌, ◌&&◌, int_le, nat_le, option_to_list, unsigned_abs};
 ghost use Rattle.fixed_point.specs.declared.number.TheConstants.{FIX_LIMIT, SLOPE_LIMIT};
+ghost use Rattle.fixed_point.specs.Sizes.{IsFix, IsFixDifference, IsSlope};
 ghost use Rattle.tick_set.specs.Runs.{IsRuns};
-ghost use Rattle.tick_set.specs.Ticks.{within};
-ghost use Rattle.tick_set.specs.declared.spans.TheConstants.{LAST_TICK};
+ghost use Rattle.tick_set.specs.Ticks.{IsTick, within};
 ghost use Rattle.plane.specs.Rows.{is_between};
 
 use fixed_point::{Fix, Slope};
@@ -47,8 +47,8 @@ impl Line {
 
 // A value after `k` ticks.
 fn moved(start: i64, slope: i64, k: u32) -> i64
-    requires start_size { unsigned_abs start ≤ FIX_LIMIT }
-    requires slope_size { unsigned_abs slope ≤ SLOPE_LIMIT }
+    requires start_size { IsFix start }
+    requires slope_size { IsSlope slope }
     ensures { result ≡ start +ℤ slope *ℤ pos k }
 {
     start + slope * i64::from(k)
@@ -57,7 +57,7 @@ fn moved(start: i64, slope: i64, k: u32) -> i64
 // The ticks of the window at which what is 0 at its first tick and rises by so much at each lies between two bounds.
 fn rising_between(rise: u64, low: i64, high: i64, w: Window) -> Option<Span>
     requires rise { rise ≤ SLOPE_LIMIT }
-    requires size { unsigned_abs high ≤ 2 * FIX_LIMIT }
+    requires size { IsFixDifference high }
     ensures { IsRuns (λ t. within w.lo w.hi t && is_between low high (pos (rise * (t - w.lo)))) (option_to_list result) }
 {
     let past = w.hi - w.lo;
@@ -70,7 +70,7 @@ fn rising_between(rise: u64, low: i64, high: i64, w: Window) -> Option<Span>
 // last where there is none.
 fn first_reached(rise: u64, bound: i64, last: u32) -> u32
     requires rise { rise ≤ SLOPE_LIMIT }
-    requires last { last ≤ LAST_TICK }
+    requires last { IsTick last }
     ensures bound { result ≤ last + 1 }
     ensures first { (k : ℕ) → k ≤ last → int_le bound (pos (rise * k)) ≡ nat_le result k }
 {

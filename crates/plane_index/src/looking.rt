@@ -1,8 +1,8 @@
 //! The last state of an object, and the strips that it covers in a slice.
 ghost use Rattle.std.specs.Prelude.{◌≡◌, ◌≤◌, ◌<◌, ℕ, Some, None, IfSome};
 ghost use Rattle.motion.specs.Cells.{IsCellAt};
-ghost use Rattle.tick_set.specs.declared.spans.TheConstants.{LAST_TICK};
-ghost use Rattle.plane.specs.declared.limits.TheConstants.{SLICES};
+ghost use Rattle.tick_set.specs.Ticks.{IsTick};
+ghost use Rattle.plane.specs.Boxes.{IsSlice};
 ghost use Rattle.plane_index.specs.Held.{kept_strips};
 ghost use Rattle.plane_index.specs.Lines.{AreValuesOf, strips_as};
 ghost use Rattle.plane_index.specs.States.{no_state, strips_by_state, IsWritten};
@@ -42,7 +42,7 @@ impl State {
 
     /// The strips that it covers in a slice, from its first tick on.
     pub fn cover(&self, grid: &Grid, s: usize) -> Cover
-        requires slice { s < SLICES }
+        requires slice { IsSlice s }
         requires written { IsWritten self.now }
         ensures { strips_as result ≡ kept_strips (strips_by_state self.now grid.now s) }
     {
@@ -59,7 +59,7 @@ impl State {
 // there is no tick, or no number.
 fn extent(cell: &Option<Cell>, from: u32, until: u32) -> Option<(Fix, Fix)>
     requires written { IfSome cell.now (λ c. IsCellAt c from) }
-    requires tick { until ≤ LAST_TICK }
+    requires tick { IsTick until }
     ensures { AreValuesOf cell.now from until result }
 {
     if until < from {
@@ -75,7 +75,7 @@ fn extent(cell: &Option<Cell>, from: u32, until: u32) -> Option<(Fix, Fix)>
 fn values_of(cell: &Cell, from: u32, until: u32) -> Option<(Fix, Fix)>
     requires written { IsCellAt cell.now from }
     requires order { from ≤ until }
-    requires tick { until ≤ LAST_TICK }
+    requires tick { IsTick until }
     ensures { AreValuesOf (Some cell.now) from until result }
 {
     match cell {

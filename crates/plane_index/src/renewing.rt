@@ -4,9 +4,11 @@ ghost use Rattle.tick_set.specs.Ticks.{between};
 ghost use Rattle.plane.specs.Boxes.{strips_in};
 ghost use Rattle.plane.specs.declared.limits.TheConstants.{SLICES};
 ghost use Rattle.plane_index.specs.Held.{kept_strips};
-ghost use Rattle.plane_index.specs.Index.{fresh_at};
+ghost use Rattle.plane_index.specs.Index.{IsPastFresh, fresh_at};
 ghost use Rattle.plane_index.specs.States.{strips_at};
 ghost use Rattle.plane_index.specs.Told.{recorded_by};
+ghost use Rattle.object_store.specs.Contents.{IsObjectId};
+ghost use Rattle.steps.specs.Counting.{StepsAtMost};
 
 use crate::state::State;
 use crate::states::States;
@@ -34,8 +36,7 @@ pub fn freshen<L: Ledger>(
     ensures kept { (k s : ℕ) → fresh_at fresh.old k ≡ true → strips_at states.new.grid states.new.states k s ≡ strips_at states.old.grid states.old.states k s }
     ensures right { (k s : ℕ) → k < length ids.now → fresh_at fresh.old k ≡ false → s < SLICES
         → strips_at states.new.grid states.new.states k s ≡ kept_strips (strips_in (recorded_by store.now) states.old.grid (slice_index ids.now k) s) }
-    ensures least { reads.old ≤ reads.new }
-    ensures most { reads.new ≤ reads.old + count_by (λ k. not (fresh_at fresh.old k)) (between 0 (length ids.now)) }
+    ensures reads { StepsAtMost reads.old reads.new (count_by (λ k. not (fresh_at fresh.old k)) (between 0 (length ids.now))) }
 {
     let mut place = next_stale(fresh, 0, ids.len());
     'places: while place < ids.len() {
@@ -53,7 +54,7 @@ fn freshen_at<L: Ledger>(
     store: &Store,
     reads: &mut Steps<L>,
 )
-    requires there { id < length store.now.objects }
+    requires there { IsObjectId store.now id }
     requires seen { place < length fresh.old }
     requires room { length fresh.old ≤ length states.old.states }
     ensures lengths { (length fresh.new ≡ length fresh.old) × (length states.new.states ≡ length states.old.states) }
@@ -78,9 +79,7 @@ fn freshen_at<L: Ledger>(
 fn next_stale(fresh: &[bool], from: usize, end: usize) -> usize
     requires from { from ≤ end }
     requires room { end ≤ length fresh.now }
-    ensures from { from ≤ result }
-    ensures end { result ≤ end }
-    ensures fresh { (k : ℕ) → from ≤ k → k < result → fresh_at fresh.now k ≡ true }
+    ensures { IsPastFresh fresh.now from end result }
 {
     let mut place = past_fresh_blocks(fresh, from, end);
     'places: while place < end && fresh[place] {
@@ -93,9 +92,7 @@ fn next_stale(fresh: &[bool], from: usize, end: usize) -> usize
 fn past_fresh_blocks(fresh: &[bool], from: usize, end: usize) -> usize
     requires from { from ≤ end }
     requires room { end ≤ length fresh.now }
-    ensures from { from ≤ result }
-    ensures end { result ≤ end }
-    ensures fresh { (k : ℕ) → from ≤ k → k < result → fresh_at fresh.now k ≡ true }
+    ensures { IsPastFresh fresh.now from end result }
 {
     let mut place = from;
     'blocks: while BLOCK <= end - place && are_fresh(fresh, place, place + BLOCK) {

@@ -1,5 +1,5 @@
 //! The objects that have a value between two bounds, and when.
-ghost use Rattle.std.specs.Prelude.{◌≡◌, ◌⊎◌, ◌+◌, ◌≤◌, ◌<◌, ◌++◌, ◌∷◌, [], All, IfOk, IfSome, OnErr, OnOk, length};
+ghost use Rattle.std.specs.Prelude.{◌≡◌, ◌⊎◌, ◌+◌, ◌<◌, ◌++◌, ◌∷◌, [], All, IfOk, IfSome, OnErr, OnOk, length};
 ghost use Rattle.object_store.specs.Contents.{history_of};
 ghost use Rattle.plane.specs.Boxes.{candidates};
 ghost use Rattle.plane.specs.Rows.{rows_among, rows_in_range, IsCovered};
@@ -10,6 +10,7 @@ ghost use Rattle.plane_index.specs.Rows.{told_range_rows};
 ghost use Rattle.plane_index.specs.Ticks.{runs_found, HasRun};
 ghost use Rattle.plane_index.specs.Index.{stale_count, IsFresh, IsIndexOf};
 ghost use Rattle.plane_index.specs.Told.{recorded_by};
+ghost use Rattle.steps.specs.Counting.{StepsAtMost};
 
 use crate::index::PlaneIndex;
 use crate::runs::ticks_between;
@@ -50,9 +51,8 @@ impl PlaneIndex {
         ensures right { IsIndexOf store.now self.new }
         ensures err { OnErr result ((self.new ≡ self.old) ⊎ IsFresh store.now self.new) }
         ensures grid { self.new.grid ≡ self.old.grid }
-        ensures least { reads.old ≤ reads.new }
-        ensures most { reads.new ≤ reads.old + (stale_count store.now self.old
-            + length (candidates (recorded_by store.now) self.old.grid lo hi w.lo w.hi)) }
+        ensures reads { StepsAtMost reads.old reads.new
+            (stale_count store.now self.old + length (candidates (recorded_by store.now) self.old.grid lo hi w.lo w.hi)) }
     {
         self.renew(store, reads)?;
         self.prepare(alloc, w)?;
@@ -83,8 +83,7 @@ fn rows_of<L: Ledger>(
 ) -> Result<Vec<RangeRow>, AllocError>
     requires { All (λ id. id < length store.now.objects) ids.now }
     ensures rows { IfOk result (λ rows. told_range_rows rows.items ≡ rows_among (history_of store.now) attribute lo hi w.lo w.hi ids.now) }
-    ensures least { reads.old ≤ reads.new }
-    ensures most { reads.new ≤ reads.old + length ids.now }
+    ensures reads { StepsAtMost reads.old reads.new (length ids.now) }
 {
     let mut rows = Vec::with_capacity(alloc, ids.len())?;
     'objects: for id in ids {

@@ -1,12 +1,13 @@
 //! What is kept of the objects of an index.
 ghost use Rattle.std.specs.Prelude.{◌≡◌, ◌≤◌, ◌<◌, ◌||◌, ◌⊎◌, ℕ, [], false, length, IfOk, OnOk, slice_index_or, slice_set};
-ghost use Rattle.plane.specs.Boxes.{Strips, strips_meet};
+ghost use Rattle.plane.specs.Boxes.{IsSlice, Strips, strips_meet};
 ghost use Rattle.plane.specs.declared.limits.TheConstants.{SLICES};
 ghost use Rattle.plane_index.specs.Columns.{narrow_at, narrowed, AreColumns};
 ghost use Rattle.plane_index.specs.Held.{kept_strips};
 ghost use Rattle.plane_index.specs.Index.{fresh_at};
 ghost use Rattle.plane_index.specs.Lines.{strips_as};
 ghost use Rattle.plane_index.specs.States.{state_of_place, strips_at, strips_by_state, AreWritten, IsWritten, States};
+ghost use Rattle.exact.specs.Lists.{SameLength};
 
 use crate::column::Column;
 use crate::cover::Cover;
@@ -79,7 +80,7 @@ impl States {
     /// Makes the strips of the slices from the first to the last one ready to be asked for. Those of the slices before
     /// are given up. It fails only where memory is out.
     pub fn prepare(&mut self, alloc: Global, first: usize, last: usize) -> Result<(), AllocError>
-        requires last { last < SLICES }
+        requires last { IsSlice last }
         ensures { self.new ≡ self.old }
     {
         forget(alloc, &mut self.columns, first);
@@ -88,9 +89,9 @@ impl States {
 
     /// Marks each place, of as many as there are marks, whose strips in a slice share one with these.
     pub fn mark(&self, s: usize, marks: &mut [bool], asked: &Cover)
-        requires slice { s < SLICES }
+        requires slice { IsSlice s }
         requires room { length marks.old ≤ length self.now.states }
-        ensures length { length marks.new ≡ length marks.old }
+        ensures length { SameLength marks.new marks.old }
         ensures marks { (k : ℕ) → k < length marks.old → fresh_at marks.new k
             ≡ (fresh_at marks.old k || strips_meet (strips_as asked.now) (strips_at self.now.grid self.now.states k s)) }
     {
@@ -115,7 +116,7 @@ fn no_columns(alloc: Global) -> Result<Vec<Column>, AllocError>
 fn note(grid: &Grid, columns: &mut [Column], place: usize, state: &State)
     requires slices { length columns.old ≡ SLICES }
     requires written { IsWritten state.now }
-    ensures length { length columns.new ≡ length columns.old }
+    ensures length { SameLength columns.new columns.old }
     ensures noted { (s : ℕ) → s < SLICES → slice_index_or columns.new s []
         ≡ slice_set (slice_index_or columns.old s []) place (narrowed (kept_strips (strips_by_state state.now grid.now s))) }
 {
@@ -128,7 +129,7 @@ fn note(grid: &Grid, columns: &mut [Column], place: usize, state: &State)
 
 // Notes them in one slice.
 fn note_in(grid: &Grid, column: &mut Column, s: usize, place: usize, state: &State)
-    requires slice { s < SLICES }
+    requires slice { IsSlice s }
     requires written { IsWritten state.now }
     ensures { column.new ≡ slice_set column.old place (narrowed (kept_strips (strips_by_state state.now grid.now s))) }
 {
@@ -139,7 +140,7 @@ fn note_in(grid: &Grid, column: &mut Column, s: usize, place: usize, state: &Sta
 
 // Gives the strips of the slices before the first one up.
 fn forget(alloc: Global, columns: &mut [Column], first: usize)
-    ensures length { length columns.new ≡ length columns.old }
+    ensures length { SameLength columns.new columns.old }
     ensures each { (s : ℕ) → (slice_index_or columns.new s [] ≡ []) ⊎ (slice_index_or columns.new s [] ≡ slice_index_or columns.old s []) }
 {
     let end = first.min(columns.len());
@@ -158,7 +159,7 @@ fn fill_from(
     first: usize,
     last: usize,
 ) -> Result<(), AllocError>
-    requires last { last < SLICES }
+    requires last { IsSlice last }
     requires right { AreColumns grid.now states.now columns.old }
     ensures { AreColumns grid.now states.now columns.new }
 {
@@ -173,7 +174,7 @@ fn fill_from(
 // Marks the places that a column has, where it tells exactly which of them share a strip with these. How many these are.
 fn mark_known(column: &Column, marks: &mut [bool], asked: &Cover) -> usize
     ensures known { result ≤ length column.now }
-    ensures length { length marks.new ≡ length marks.old }
+    ensures length { SameLength marks.new marks.old }
     ensures marks { (k : ℕ) (p : Strips) → k < result → narrow_at column.now k ≡ narrowed p
         → fresh_at marks.new k ≡ (fresh_at marks.old k || strips_meet (strips_as asked.now) p) }
     ensures rest { (k : ℕ) → result ≤ k → fresh_at marks.new k ≡ fresh_at marks.old k }
@@ -193,10 +194,10 @@ fn mark_rest(
     marks: &mut [bool],
     asked: &Cover,
 )
-    requires slice { s < SLICES }
+    requires slice { IsSlice s }
     requires room { length marks.old ≤ length states.now }
     requires written { AreWritten states.now }
-    ensures length { length marks.new ≡ length marks.old }
+    ensures length { SameLength marks.new marks.old }
     ensures marks { (k : ℕ) → from ≤ k → k < length marks.old → fresh_at marks.new k
         ≡ (fresh_at marks.old k || strips_meet (strips_as asked.now) (strips_at grid.now states.now k s)) }
     ensures before { (k : ℕ) → k < from → fresh_at marks.new k ≡ fresh_at marks.old k }

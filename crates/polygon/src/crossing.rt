@@ -6,6 +6,7 @@ ghost use Rattle.linear_crossing.specs.Moving.{position_after};
 ghost use Rattle.polygon.specs.Margin.{margin_after};
 ghost use Rattle.tick_set.specs.Runs.{IsRuns, spans_have};
 ghost use Rattle.tick_set.specs.Ticks.{within};
+ghost use Rattle.fixed_point.specs.Sizes.{IsFixDifference};
 
 use crate::margin::Margin;
 use crate::sides::end_of_edge;
@@ -68,7 +69,7 @@ fn climb(start: &Point, end: &Point, l: &Line) -> i128
 // A way times a slope.
 #[inline]
 fn swept(way: i64, slope: Slope) -> i128
-    requires { unsigned_abs way ≤ 2 * FIX_LIMIT }
+    requires { IsFixDifference way }
     ensures value { result ≡ way *ℤ slope }
     ensures size { unsigned_abs result ≤ 2 * FIX_LIMIT * SLOPE_LIMIT }
 {

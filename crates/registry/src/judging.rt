@@ -1,10 +1,10 @@
 //! Why a query that is to be registered is refused.
-ghost use Rattle.std.specs.Prelude.{◌≡◌, ◌≤◌, ◌∷◌, [], None, IfErr, IfOk, IsOk};
+ghost use Rattle.std.specs.Prelude.{◌≡◌, ◌∷◌, [], None, IfErr, IfOk, IsOk};
 ghost use Rattle.formula.specs.Resolved.{IsResolved};
 ghost use Rattle.formula.specs.Tree.{resolved_view};
 ghost use Rattle.meaning.specs.Fits.{FitsItsClasses};
 ghost use Rattle.ftl_parser.specs.Tree.{query_view};
-ghost use Rattle.tick_set.specs.declared.spans.TheConstants.{LAST_TICK};
+ghost use Rattle.tick_set.specs.Ticks.{IsTick};
 ghost use Rattle.line_meaning.specs.Ask.{query_in};
 ghost use Rattle.line_meaning.specs.FirstFault.{refusal_by_type, refusal_in_order};
 ghost use Rattle.database.specs.Keeping.{clock_of, world_of_database};
@@ -45,8 +45,8 @@ fn is_past_bindings(bindings: u64, others: &Others) -> bool
 
 /// Why a query whose names, kinds and bounds are right is refused.
 fn size_refusal(database: &Database, others: &Others, span: u32, query: &Query) -> Option<Refusal>
-    requires now { database.now.clock ≤ LAST_TICK }
-    requires span { span ≤ LAST_TICK }
+    requires now { IsTick database.now.clock }
+    requires span { IsTick span }
     ensures { result ≡ size_refusal_beside (world_of_database database.now) (clock_of database.now) others.now span (query_view query.now) }
 {
     let bindings = most_bindings(database.schema(), query.from.items());

@@ -1,8 +1,7 @@
 //! Registering a query.
-ghost use Rattle.std.specs.Prelude.{◌≤◌};
 ghost use Rattle.formula.specs.Tree.{resolved_view};
 ghost use Rattle.ftl_parser.specs.Tree.{query_view};
-ghost use Rattle.tick_set.specs.declared.spans.TheConstants.{LAST_TICK};
+ghost use Rattle.tick_set.specs.Ticks.{IsTick};
 ghost use Rattle.line_meaning.specs.Looks.{most_reads};
 ghost use Rattle.database.specs.Keeping.{IsTimely, TellsAcceptedWrites, world_of_database};
 ghost use Rattle.database.specs.Telling.{TakesAtMost, tally};
@@ -40,7 +39,7 @@ pub fn register<L: Ledger, M: Ledger>(
     probes: &mut Steps<M>,
     out: &mut Vec<u8>,
 ) -> Result<(), AllocError>
-    requires span { request.now.span ≤ LAST_TICK }
+    requires span { IsTick request.now.span }
     requires timely { IsTimely database.now }
     requires accepted { TellsAcceptedWrites database.now }
     requires stand { Stand database.now live.old }

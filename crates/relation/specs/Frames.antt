@@ -37,3 +37,15 @@ vars_of_both us vs = variables_in (λ v. has_id us v || has_id vs v)
 pub record IsWider (old new : List (List ℕ)) : Type 0 where
   pub many : length new ≡ length old
   pub all : (var id : ℕ) → has_id (ids_of_variable old var) id ≡ true → has_id (ids_of_variable new var) id ≡ true
+
+-- two relations are over the same domains and window
+abbrev pub SameFrame : {S : Type 0} → Table S → Table S → Type 0
+SameFrame r q = frame r ≡ frame q
+
+-- a relation is over these domains, from the one tick to the other
+abbrev pub HasFrame : {S : Type 0} → Table S → List (List ℕ) → (lo hi : ℕ) → Type 0
+HasFrame r domains lo hi = frame r ≡ frame_of domains lo hi
+
+-- it holds of each object that a variable ranges over
+abbrev pub EachObjectOf : List (List ℕ) → ℕ → (ℕ → Type 0) → Type 0
+EachObjectOf domains var P = (id : ℕ) → has_id (ids_of_variable domains var) id ≡ true → P id

@@ -4,7 +4,7 @@ ghost use Rattle.std.specs.Prelude.{◌≡◌, ◌==◌, ◌&&◌, ◌||◌, ◌
 ghost use Rattle.std.specs.List.{list_all};
 ghost use Rattle.std.specs.Str.{bytes_eq};
 ghost use Rattle.tick_set.specs.Ticks.{LiesIn};
-ghost use Rattle.relation.specs.Frames.{IsIn, frame};
+ghost use Rattle.relation.specs.Frames.{IsIn, SameFrame, frame};
 ghost use Rattle.relation.specs.Key.{has_id, ids_of_variable, key_below, key_in};
 ghost use Rattle.relation.specs.Rows.{IsSameHead, has_at, table_has};
 
@@ -33,7 +33,7 @@ impl<'d, S: Temporal> Relation<'d, S> {
         ensures ticks { IfOk result (λ r. (b : ℕ → ℕ) → IsIn self.now.domains b → (t : ℕ) → table_has S.member r b t
             ≡ (if b var == id then table_has S.member part.now b t else table_has S.member self.now b t)) }
         ensures vars { IfOk result (λ r. r.vars ≡ self.now.vars) }
-        ensures frame { IfOk result (λ r. frame r ≡ frame self.now) }
+        ensures frame { IfOk result (λ r. SameFrame r self.now) }
     {
         // That the part is a relation says that its rows have the object.
         let _ = part.rows();

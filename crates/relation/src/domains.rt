@@ -3,6 +3,7 @@
 ghost use Rattle.std.specs.Prelude.{◌≡◌, ◌<◌, ◌≤◌, ℕ, ◌∷◌, [], ◌++◌, length, slice_index_or, IsOk, OnOk, OnErr};
 ghost use Rattle.std.specs.List.Sorted.{IsStrictlyIncreasing};
 ghost use Rattle.relation.specs.Key.{ids_of_variable};
+ghost use Rattle.formula_shape.specs.Sizes.{OneMoreFits};
 
 use crate::Few;
 use formula::OBJECT_LIMIT;
@@ -48,7 +49,7 @@ impl Domains {
     #[tactic(auto, using(crate::proofs::HeldLemmas::held_more, crate::proofs::HeldLemmas::held_front))]
     pub fn push(&mut self, alloc: Global, ids: &[u32]) -> Result<(), AllocError>
         requires ascending { IsStrictlyIncreasing ids.now }
-        requires few { length self.old < OBJECT_LIMIT }
+        requires few { OneMoreFits self.old }
         ensures ok { OnOk result (self.new ≡ self.old ++ ids.now ∷ []) }
         ensures err { OnErr result (self.new ≡ self.old) }
         ensures memory { length ids.now ≤ 1 → IsOk result }

@@ -5,7 +5,8 @@ ghost use Rattle.std.specs.List.Sorted.{IsStrictlyIncreasing};
 ghost use Rattle.tick_set.specs.Ticks.{within};
 ghost use Rattle.formula.specs.Forms.{until_form_at};
 ghost use Rattle.formula_shape.specs.declared.limits.TheConstants.{OBJECT_LIMIT};
-ghost use Rattle.relation.specs.Frames.{IsIn, frame, vars_of_both};
+ghost use Rattle.formula_shape.specs.Sizes.{FitInQuery};
+ghost use Rattle.relation.specs.Frames.{IsIn, SameFrame, frame, vars_of_both};
 ghost use Rattle.formula.specs.Resolved.{are_distinct};
 ghost use Rattle.relation.specs.Key.{are_known};
 ghost use Rattle.relation.specs.Operations.{combined_between};
@@ -27,13 +28,13 @@ impl<'d, S: Temporal> Relation<'d, S> {
     /// The ticks at which both have the binding, over the variables of both. In time linear in the rows of the one
     /// with fewer, but for searches among those of the other.
     pub fn join(&self, alloc: Global, other: &Self) -> Result<Self, AllocError>
-        requires frame { frame other.now ≡ frame self.now }
+        requires frame { SameFrame other.now self.now }
         requires left { IsStrictlyIncreasing self.now.vars }
         requires right { IsStrictlyIncreasing other.now.vars }
         ensures ticks { IfOk result (λ r. (b : ℕ → ℕ) → IsIn self.now.domains b → (t : ℕ) → table_has S.member r b t
             ≡ (table_has S.member self.now b t && table_has S.member other.now b t)) }
         ensures vars { IfOk result (λ r. r.vars ≡ vars_of_both self.now.vars other.now.vars) }
-        ensures frame { IfOk result (λ r. frame r ≡ frame self.now) }
+        ensures frame { IfOk result (λ r. SameFrame r self.now) }
     {
         let made = self.with(alloc, Operation::Meet, other)?;
         Ok(made)
@@ -42,13 +43,13 @@ impl<'d, S: Temporal> Relation<'d, S> {
     /// The ticks at which either has the binding, over the variables of both. A variable that one of them lacks
     /// takes each object of its domain.
     pub fn unite(&self, alloc: Global, other: &Self) -> Result<Self, AllocError>
-        requires frame { frame other.now ≡ frame self.now }
+        requires frame { SameFrame other.now self.now }
         requires left { IsStrictlyIncreasing self.now.vars }
         requires right { IsStrictlyIncreasing other.now.vars }
         ensures ticks { IfOk result (λ r. (b : ℕ → ℕ) → IsIn self.now.domains b → (t : ℕ) → table_has S.member r b t
             ≡ (table_has S.member self.now b t || table_has S.member other.now b t)) }
         ensures vars { IfOk result (λ r. r.vars ≡ vars_of_both self.now.vars other.now.vars) }
-        ensures frame { IfOk result (λ r. frame r ≡ frame self.now) }
+        ensures frame { IfOk result (λ r. SameFrame r self.now) }
     {
         let made = self.with(alloc, Operation::Union, other)?;
         Ok(made)
@@ -63,14 +64,14 @@ impl<'d, S: Temporal> Relation<'d, S> {
         form: UntilForm,
         c: u32,
     ) -> Result<Self, AllocError>
-        requires frame { frame other.now ≡ frame self.now }
+        requires frame { SameFrame other.now self.now }
         requires left { IsStrictlyIncreasing self.now.vars }
         requires right { IsStrictlyIncreasing other.now.vars }
         ensures ticks { IfOk result (λ r. (b : ℕ → ℕ) → IsIn self.now.domains b → (t : ℕ) → table_has S.member r b t
             ≡ (within self.now.lo self.now.hi t
             && until_form_at form c (table_has S.member self.now b) (table_has S.member other.now b) self.now.hi t)) }
         ensures vars { IfOk result (λ r. r.vars ≡ vars_of_both self.now.vars other.now.vars) }
-        ensures frame { IfOk result (λ r. frame r ≡ frame self.now) }
+        ensures frame { IfOk result (λ r. SameFrame r self.now) }
     {
         let made = self.with(alloc, Operation::Until(form, c), other)?;
         Ok(made)
@@ -81,7 +82,7 @@ impl<'d, S: Temporal> Relation<'d, S> {
         ensures ticks { IfOk result (λ r. (b : ℕ → ℕ) → IsIn self.now.domains b → (t : ℕ) → table_has S.member r b t
             ≡ (within self.now.lo self.now.hi t && not (table_has S.member self.now b t))) }
         ensures vars { IfOk result (λ r. r.vars ≡ self.now.vars) }
-        ensures frame { IfOk result (λ r. frame r ≡ frame self.now) }
+        ensures frame { IfOk result (λ r. SameFrame r self.now) }
     {
         let made = self.walked(alloc, Operation::Complement, self.vars(), self)?;
         Ok(made)
@@ -89,13 +90,13 @@ impl<'d, S: Temporal> Relation<'d, S> {
 
     // Both put together over the variables of both.
     fn with(&self, alloc: Global, operation: Operation, other: &Self) -> Result<Self, AllocError>
-        requires frame { frame other.now ≡ frame self.now }
+        requires frame { SameFrame other.now self.now }
         requires left { IsStrictlyIncreasing self.now.vars }
         requires right { IsStrictlyIncreasing other.now.vars }
         ensures ticks { IfOk result (λ r. (b : ℕ → ℕ) → IsIn self.now.domains b → (t : ℕ) → table_has S.member r b t
             ≡ combined_between operation self.now.lo self.now.hi (table_has S.member self.now b) (table_has S.member other.now b) t) }
         ensures vars { IfOk result (λ r. r.vars ≡ vars_of_both self.now.vars other.now.vars) }
-        ensures frame { IfOk result (λ r. frame r ≡ frame self.now) }
+        ensures frame { IfOk result (λ r. SameFrame r self.now) }
     {
         // The number of domains bounds the variables.
         let _ = self.domains().len();
@@ -112,8 +113,8 @@ impl<'d, S: Temporal> Relation<'d, S> {
         vars: &[u8],
         other: &Self,
     ) -> Result<Self, AllocError>
-        requires frame { frame other.now ≡ frame self.now }
-        requires few { length vars.now ≤ OBJECT_LIMIT }
+        requires frame { SameFrame other.now self.now }
+        requires few { FitInQuery vars.now }
         requires known { are_known self.now.domains vars.now ≡ true }
         requires distinct { are_distinct vars.now ≡ true }
         requires left { covers vars.now self.now.vars ≡ true }
@@ -121,7 +122,7 @@ impl<'d, S: Temporal> Relation<'d, S> {
         ensures ticks { IfOk result (λ r. (b : ℕ → ℕ) → IsIn self.now.domains b → (t : ℕ) → table_has S.member r b t
             ≡ combined_between operation self.now.lo self.now.hi (table_has S.member self.now b) (table_has S.member other.now b) t) }
         ensures vars { IfOk result (λ r. r.vars ≡ vars.now) }
-        ensures frame { IfOk result (λ r. frame r ≡ frame self.now) }
+        ensures frame { IfOk result (λ r. SameFrame r self.now) }
     {
         let mut made = Relation::empty(alloc, vars, self.domains(), self.window());
         walk(

@@ -1,10 +1,10 @@
 //! Relations over some of their variables.
 
-ghost use Rattle.std.specs.Prelude.{◌≡◌, ◌≤◌, ℕ, List, true, length, IfOk};
+ghost use Rattle.std.specs.Prelude.{◌≡◌, ℕ, List, true, IfOk};
 ghost use Rattle.std.specs.List.{All, list_all};
-ghost use Rattle.formula_shape.specs.declared.limits.TheConstants.{OBJECT_LIMIT};
+ghost use Rattle.formula_shape.specs.Sizes.{FitInQuery};
 ghost use Rattle.relation.specs.Entries.{AreEntries, IsEntry, entries_have};
-ghost use Rattle.relation.specs.Frames.{frame};
+ghost use Rattle.relation.specs.Frames.{SameFrame, frame};
 ghost use Rattle.formula.specs.Resolved.{are_distinct};
 ghost use Rattle.relation.specs.Key.{has_id};
 ghost use Rattle.relation.specs.Projection.{IsPicked, variable_place, picked, rows_over};
@@ -28,7 +28,7 @@ impl<'d, S: Temporal> Relation<'d, S> {
         ensures some { IfOk result (λ r. (b : ℕ → ℕ) (t : ℕ) → table_has S.member r b t ≡ true
             → IsPicked S.member self.now vars.now b t) }
         ensures vars { IfOk result (λ r. r.vars ≡ vars.now) }
-        ensures frame { IfOk result (λ r. frame r ≡ frame self.now) }
+        ensures frame { IfOk result (λ r. SameFrame r self.now) }
     {
         let own = self.vars();
         let rows = self.rows();
@@ -46,7 +46,7 @@ fn entries_over<S: Temporal>(
     rows: &[Row<S>],
     vars: &[u8],
 ) -> Result<Vec<Entry>, AllocError>
-    requires few { length vars.now ≤ OBJECT_LIMIT }
+    requires few { FitInQuery vars.now }
     requires among { list_all (has_id own.now) vars.now ≡ true }
     ensures entries { IfOk result (λ es. (domains : List (List ℕ)) (lo hi : ℕ)
         → AreRows S.member domains own.now lo hi 0 rows.now
@@ -66,7 +66,7 @@ fn entries_of<S: Temporal>(
     rows: &[Row<S>],
     vars: &[u8],
 ) -> Result<Vec<Entry>, AllocError>
-    requires few { length vars.now ≤ OBJECT_LIMIT }
+    requires few { FitInQuery vars.now }
     requires among { list_all (has_id own.now) vars.now ≡ true }
     ensures each { IfOk result (λ es. (domains : List (List ℕ)) (lo hi : ℕ)
         → AreRows S.member domains own.now lo hi 0 rows.now → All (IsEntry S.member rows.now domains vars.now lo hi) es.items) }
@@ -83,7 +83,7 @@ fn entries_of<S: Temporal>(
 
 // The objects that a row over `own` gives these variables.
 fn picked<S>(own: &[u8], row: &Row<S>, vars: &[u8]) -> Binding
-    requires { length vars.now ≤ OBJECT_LIMIT }
+    requires { FitInQuery vars.now }
     ensures { result ≡ picked own.now row.now.key vars.now }
 {
     let mut made = Binding::new();

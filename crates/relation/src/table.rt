@@ -1,10 +1,10 @@
 //! A relation and its rows.
 
-ghost use Rattle.std.specs.Prelude.{◌≡◌, ◌≤◌, ◌||◌, ◌&&◌, ℕ, Bool, true, false, List, [], length, slice_get, option_map, OnOk, OnErr, MatchOption};
+ghost use Rattle.std.specs.Prelude.{◌≡◌, ◌||◌, ◌&&◌, ℕ, Bool, true, false, List, [], slice_get, option_map, OnOk, OnErr, MatchOption};
 ghost use Rattle.std.specs.List.{list_all};
 ghost use Rattle.std.specs.Str.{bytes_eq};
 ghost use Rattle.tick_set.specs.Ticks.{LiesIn};
-ghost use Rattle.formula_shape.specs.declared.limits.TheConstants.{OBJECT_LIMIT};
+ghost use Rattle.formula_shape.specs.Sizes.{FitInQuery};
 
 use crate::{Domains, Row, Variables};
 use formula::Binding;
@@ -40,7 +40,7 @@ impl<'d, S: Temporal> Relation<'d, S> {
 
     /// No row, over these variables. Takes no memory; `alloc` serves what is put into it.
     pub fn empty(alloc: Global, vars: &[u8], domains: &'d Domains, window: Window) -> Self
-        requires few { length vars.now ≤ OBJECT_LIMIT }
+        requires few { FitInQuery vars.now }
         requires known { are_known domains.now vars.now ≡ true }
         requires distinct { are_distinct vars.now ≡ true }
         ensures { result ≡ table vars.now domains.now window.lo window.hi [] }
@@ -76,7 +76,7 @@ impl<'d, S: Temporal> Relation<'d, S> {
     #[inline]
     pub fn vars(&self) -> &[u8]
         ensures value { result.now ≡ self.now.vars }
-        ensures few { length result.now ≤ OBJECT_LIMIT }
+        ensures few { FitInQuery result.now }
         ensures known { are_known self.now.domains result.now ≡ true }
         ensures distinct { are_distinct result.now ≡ true }
     {

@@ -1,7 +1,7 @@
 //! The variables of two lists.
 
-ghost use Rattle.std.specs.Prelude.{◌≡◌, ◌≤◌, ◌<◌, ◌+◌, ◌||◌, ◌∷◌, [], ◌++◌, if◌then◌else◌, length};
-ghost use Rattle.formula_shape.specs.declared.limits.TheConstants.{OBJECT_LIMIT};
+ghost use Rattle.std.specs.Prelude.{◌≡◌, ◌≤◌, ◌+◌, ◌||◌, ◌∷◌, [], ◌++◌, if◌then◌else◌, length};
+ghost use Rattle.formula_shape.specs.Sizes.{OneMoreFits};
 ghost use Rattle.relation.specs.Frames.{vars_of_both};
 ghost use Rattle.relation.specs.Key.{has_id};
 
@@ -21,7 +21,7 @@ pub(crate) fn vars_of_both(left: &[u8], right: &[u8]) -> Variables
 
 // Adds the variable if it is in one of the lists.
 fn push_shared(made: &mut Variables, var: u8, left: &[u8], right: &[u8])
-    requires { length made.old < OBJECT_LIMIT }
+    requires { OneMoreFits made.old }
     ensures pushed { made.new ≡ made.old ++ (if has_id left.now var || has_id right.now var then var ∷ [] else []) }
     ensures few { length made.new ≤ length made.old + 1 }
 {

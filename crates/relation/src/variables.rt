@@ -1,6 +1,7 @@
 //! Lists of object variables.
 
-ghost use Rattle.std.specs.Prelude.{◌≡◌, ◌<◌, ◌≤◌, ◌∷◌, [], ◌++◌, length};
+ghost use Rattle.std.specs.Prelude.{◌≡◌, ◌∷◌, [], ◌++◌, length};
+ghost use Rattle.formula_shape.specs.Sizes.{FitInQuery, OneMoreFits};
 
 use formula::OBJECT_LIMIT;
 use std::marker::Model;
@@ -46,7 +47,7 @@ impl Variables {
 
     // Adds a variable at the end.
     pub(crate) fn push(&mut self, var: u8)
-        requires { length self.old < OBJECT_LIMIT }
+        requires { OneMoreFits self.old }
         ensures { self.new ≡ self.old ++ var ∷ [] }
     {
         self.vars[self.len as usize] = var;
@@ -55,7 +56,7 @@ impl Variables {
 
     // These variables.
     pub(crate) fn of(vars: &[u8]) -> Variables
-        requires { length vars.now ≤ OBJECT_LIMIT }
+        requires { FitInQuery vars.now }
         ensures { result ≡ vars.now }
     {
         let mut made = Variables::new();
@@ -69,7 +70,7 @@ impl Variables {
     #[inline]
     pub(crate) fn vars(&self) -> &[u8]
         ensures value { result.now ≡ self.now }
-        ensures few { length self.now ≤ OBJECT_LIMIT }
+        ensures few { FitInQuery self.now }
     {
         &self.vars[..self.len as usize]
     }

@@ -1,5 +1,5 @@
 //! Ticks, spans, names and targets in a line.
-ghost use Rattle.std.specs.Prelude.{◌≡◌, ◌+◌, ◌-◌, ◌*◌, ◌<◌, ◌≤◌, ◌==◌, ◌&&◌, option_map, position, length, IfSome, IfOk, Some, true};
+ghost use Rattle.std.specs.Prelude.{◌≡◌, ◌+◌, ◌-◌, ◌*◌, ◌<◌, ◌==◌, ◌&&◌, option_map, position, length, IfSome, IfOk, Some, true};
 ghost use Rattle.std.specs.Char.{is_ascii_digit};
 ghost use Rattle.std.specs.List.{list_all, prefix_len};
 ghost use Rattle.std.specs.Str.{bytes_eq};
@@ -11,6 +11,7 @@ ghost use Rattle.ftl_lexer.specs.Cut.{is_word};
 ghost use Rattle.ftl_lexer.specs.Forms.{begins_name, continues_name};
 ghost use Rattle.tick_set.specs.Runs.{IsNormal, pairs};
 ghost use Rattle.tick_set.specs.declared.spans.TheConstants.{LAST_TICK};
+ghost use Rattle.tick_set.specs.Ticks.{IsTick};
 ghost use Rattle.replica.specs.Text.{after_text, before_text, cut_at_mark, is_free_name, is_target, span_of, spans_from, tick_at, tick_of, words};
 
 use case_table::reserved_code;
@@ -105,7 +106,7 @@ fn has_spare_zero(digits: &[u8]) -> bool
 #[tactic(auto, unfolding(crate::specs::Text::tick_at))]
 fn tick_at(text: &[u8]) -> Option<(u32, &[u8])>
     ensures value { option_map (λ found. (found.0, found.1.now)) result ≡ tick_at text.now }
-    ensures small { IfSome result (λ found. found.0 ≤ LAST_TICK) }
+    ensures small { IfSome result (λ found. IsTick found.0) }
 {
     let (digits, rest) = digits_at(text)?;
     let number = number_of(digits);
@@ -120,7 +121,7 @@ fn tick_at(text: &[u8]) -> Option<(u32, &[u8])>
 #[tactic(auto, unfolding(crate::specs::Text::tick_of))]
 pub(crate) fn tick_of(text: &[u8]) -> Option<u32>
     ensures value { result ≡ tick_of text.now }
-    ensures small { IfSome result (λ tick. tick ≤ LAST_TICK) }
+    ensures small { IfSome result (λ tick. IsTick tick) }
 {
     let (tick, rest) = tick_at(text)?;
     if rest.is_empty() { Some(tick) } else { None }

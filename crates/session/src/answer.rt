@@ -1,6 +1,6 @@
 //! What is done with a command that was read.
 ghost use Rattle.std.specs.Prelude.{◌≡◌, ◌++◌, false, IfErr, IfOk, IfSome, OnOk};
-ghost use Rattle.command_text.specs.Text.{text_of};
+ghost use Rattle.command_text.specs.Text.{IsLineOf};
 ghost use Rattle.command_text.specs.Tree.{command_view};
 ghost use Rattle.line_meaning.specs.Step.{held};
 ghost use Rattle.database.specs.Telling.{RefusesFreely, tally};
@@ -94,7 +94,7 @@ fn perform_plain<L: Ledger, M: Ledger>(
 ) -> Result<Next, CommandFault>
     requires state { IsState state.old.journal state.old }
     requires command { IsToCarryOut (command_view command.now) }
-    requires printed { IfSome printed (λ line. line.now ≡ text_of (command_view command.now)) }
+    requires printed { IfSome printed (λ line. IsLineOf line.now (command_view command.now)) }
     requires other { is_on_indexes (command_view command.now) ≡ false }
     ensures state { IsState state.new.journal state.new }
     ensures indexes { KeepsIndexes state.old state.new }
@@ -152,7 +152,7 @@ fn perform<L: Ledger, M: Ledger>(
     requires state { IsState state.old.journal state.old }
     requires indexed { IsIndexed state.old }
     requires command { IsToCarryOut (command_view command.now) }
-    requires printed { IfSome printed (λ line. line.now ≡ text_of (command_view command.now)) }
+    requires printed { IfSome printed (λ line. IsLineOf line.now (command_view command.now)) }
     ensures state { IsState state.new.journal state.new }
     ensures indexed { IsIndexed state.new }
     ensures carries { CarriesOut (command_view command.now)
@@ -188,7 +188,7 @@ pub(crate) fn carry_out<L: Ledger, M: Ledger>(
     requires state { IsState state.old.journal state.old }
     requires indexed { IsIndexed state.old }
     requires command { IsToCarryOut (command_view command.now) }
-    requires printed { IfSome printed (λ line. line.now ≡ text_of (command_view command.now)) }
+    requires printed { IfSome printed (λ line. IsLineOf line.now (command_view command.now)) }
     ensures state { IsState state.new.journal state.new }
     ensures indexed { IsIndexed state.new }
     ensures carried { Carried (command_view command.now)

@@ -2,8 +2,9 @@
 ghost use Rattle.std.specs.Prelude.{◌≡◌, ◌+◌, ◌≤◌, ◌||◌, ◌++◌, ◌∷◌, [], false, nat_le, nat_lt, length, IfSome, OnErr, OnOk};
 ghost use Rattle.command_text.specs.declared.journal.TheConstants.{MOST_BYTES};
 ghost use Rattle.ftl_lexer.specs.declared.buffer.TheConstants.{LEXER_LIMIT};
+ghost use Rattle.ftl_lexer.specs.Forms.{FitsLexer};
 ghost use Rattle.command_text.specs.Journal.{bytes_of, spelled};
-ghost use Rattle.command_text.specs.Text.{text_of};
+ghost use Rattle.command_text.specs.Text.{IsLineOf, text_of};
 ghost use Rattle.command_text.specs.Tree.{command_view};
 ghost use Rattle.line_meaning.specs.Fault.{passes_limits};
 ghost use Rattle.line_meaning.specs.Reply.{ok_line};
@@ -18,7 +19,7 @@ const OK_BYTES: usize = 3;
 
 /// Whether one more entry, whose canonical line has so many bytes, passes the limits of a journal.
 fn is_full(journal: &Journal, line: usize) -> bool
-    requires { line ≤ LEXER_LIMIT }
+    requires { FitsLexer line }
     ensures { result ≡ passes_limits (length journal.now) (bytes_of journal.now) line }
 {
     passes(
@@ -38,7 +39,7 @@ pub(crate) fn passes(
     most_entries: usize,
     most_bytes: u64,
 ) -> bool
-    requires few { line ≤ LEXER_LIMIT }
+    requires few { FitsLexer line }
     requires short { bytes ≤ MOST_BYTES }
     ensures { result ≡ (nat_le most_entries entries || nat_lt most_bytes (bytes + line + 1)) }
 {
@@ -48,7 +49,7 @@ pub(crate) fn passes(
 /// Puts the canonical line of a command into `line`: a copy where it was printed before.
 #[inline(always)]
 fn put_line(line: &mut Vec<u8>, command: &Command, printed: Option<&[u8]>) -> Result<(), AllocError>
-    requires printed { IfSome printed (λ line. line.now ≡ text_of (command_view command.now)) }
+    requires printed { IfSome printed (λ line. IsLineOf line.now (command_view command.now)) }
     ensures { OnOk result (line.new.items ≡ text_of (command_view command.now)) }
 {
     let Some(printed) = printed else {
@@ -68,7 +69,7 @@ pub(crate) fn admit(
     printed: Option<&[u8]>,
 ) -> Result<(), CommandFault>
     requires short { length (text_of (command_view command.now)) ≤ LEXER_LIMIT }
-    requires printed { IfSome printed (λ line. line.now ≡ text_of (command_view command.now)) }
+    requires printed { IfSome printed (λ line. IsLineOf line.now (command_view command.now)) }
     ensures { Admits journal.now (command_view command.now) line.new.items result }
 {
     put_line(line, command, printed)?;
@@ -88,7 +89,7 @@ pub(crate) fn enter(
     out: &mut Vec<u8>,
 ) -> Result<(), AllocError>
     requires canonical { text_of (spelled line.now) ≡ line.now }
-    requires short { length line.now ≤ LEXER_LIMIT }
+    requires short { FitsLexer (length line.now) }
     requires room { passes_limits (length journal.old) (bytes_of journal.old) (length line.now) ≡ false }
     ensures entered { OnOk result (journal.new ≡ journal.old ++ (now, spelled line.now) ∷ []) }
     ensures err { OnErr result (journal.new ≡ journal.old) }

@@ -16,6 +16,7 @@ ghost use Rattle.session.specs.Filed.{IsAnswered, IsApplied, IsBySome, IsFiling,
 ghost use Rattle.session.specs.Imported.{Imports, IsThere};
 ghost use Rattle.session.specs.State.{IsState, KeepsIndexes};
 ghost use Rattle.session.specs.Trial.{AreImported};
+ghost use Rattle.steps.specs.Counting.{StepsAtMost};
 
 use crate::importing::enter_rows;
 use crate::next::{ApplyFault, Next};
@@ -66,8 +67,7 @@ fn save<F: Shelf, L: Ledger>(
         out.old.items (said_after result out.old.items out.new.items) result }
     ensures cause { HasFaultCause (F.faults shelf.old) (F.faults shelf.new) result }
     ensures begins { Begins out.old.items out.new.items }
-    ensures least { reads.old ≤ reads.new }
-    ensures most { reads.new ≤ reads.old + most_looks (held state.now.journal) (Tree.Save file.now) }
+    ensures reads { StepsAtMost reads.old reads.new (most_looks (held state.now.journal) (Tree.Save file.now)) }
     ensures unread { IfOk result (λ next. IsUnread next reads.old reads.new) }
 {
     match save_text(alloc, &state.journal, reads) {
@@ -91,8 +91,7 @@ fn export<F: Shelf, L: Ledger>(
         out.old.items (said_after result out.old.items out.new.items) result }
     ensures cause { HasFaultCause (F.faults shelf.old) (F.faults shelf.new) result }
     ensures begins { Begins out.old.items out.new.items }
-    ensures least { reads.old ≤ reads.new }
-    ensures most { reads.new ≤ reads.old + most_looks (held state.now.journal) (Tree.Export class.now file.now) }
+    ensures reads { StepsAtMost reads.old reads.new (most_looks (held state.now.journal) (Tree.Export class.now file.now)) }
     ensures unread { IfOk result (λ next. IsUnread next reads.old reads.new) }
 {
     match state.database.export_text(alloc, class, reads) {

@@ -1,5 +1,5 @@
 //! The rows of an import, entered one after another.
-ghost use Rattle.std.specs.Prelude.{◌≡◌, ◌+◌, ◌≤◌, ◌++◌, true, map, is_some, OnOk, OnErr};
+ghost use Rattle.std.specs.Prelude.{◌≡◌, ◌+◌, ◌++◌, true, map, is_some, OnOk, OnErr};
 ghost use Rattle.std.specs.List.{AllByRecursion};
 ghost use Rattle.command_text.specs.Tree.{command_view};
 ghost use Rattle.line_meaning.specs.Import.{entry_lines, is_taken, with_entry};
@@ -9,6 +9,7 @@ ghost use Rattle.session.specs.Carried.{Spends, moment};
 ghost use Rattle.session.specs.Rows.{EntersCommands, IsRowCommand, journal_after_commands, looks_of_commands};
 ghost use Rattle.session.specs.State.{IsState, KeepsIndexes};
 ghost use Rattle.kept_indexes.specs.Making.{HasRoomForOk};
+ghost use Rattle.steps.specs.Counting.{StepsAtMost};
 
 use crate::entering::{end_reply, make_room};
 use crate::keeping::keep;
@@ -66,8 +67,7 @@ pub(crate) fn enter_rows<L: Ledger, M: Ledger>(
     ensures indexes { KeepsIndexes state.old state.new }
     ensures entered { EntersCommands (map command_view commands.now) state.old.journal state.new.journal out.old.items out.new.items result }
     ensures begins { Begins out.old.items out.new.items }
-    ensures least { reads.old ≤ reads.new }
-    ensures most { reads.new ≤ reads.old + looks_of_commands state.old.journal (map command_view commands.now) }
+    ensures reads { StepsAtMost reads.old reads.new (looks_of_commands state.old.journal (map command_view commands.now)) }
 {
     make_room(out)?;
     let mut rest = commands;

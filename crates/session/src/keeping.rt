@@ -3,7 +3,7 @@ ghost use Rattle.std.specs.Prelude.{◌≡◌, ◌++◌, ◌∷◌, [], true, fa
 ghost use Rattle.std.specs.List.{flat_map};
 ghost use Rattle.command_text.specs.Journal.{is_kept};
 ghost use Rattle.command_text.specs.Tree;
-ghost use Rattle.command_text.specs.Text.{text_of};
+ghost use Rattle.command_text.specs.Text.{IsLineOf};
 ghost use Rattle.command_text.specs.Tree.{command_view};
 ghost use Rattle.line_meaning.specs.Reached.{AreReached};
 ghost use Rattle.line_meaning.specs.Step.{held};
@@ -54,7 +54,7 @@ pub(crate) fn keep<L: Ledger, M: Ledger>(
     requires state { IsState state.old.journal state.old }
     requires legible { IsLegible (command_view command.now) }
     requires kept { is_kept (command_view command.now) ≡ true }
-    requires printed { IfSome printed (λ line. line.now ≡ text_of (command_view command.now)) }
+    requires printed { IfSome printed (λ line. IsLineOf line.now (command_view command.now)) }
     ensures state { IsState state.new.journal state.new }
     ensures indexes { KeepsIndexes state.old state.new }
     ensures carries { CarriesOut (command_view command.now)
@@ -170,7 +170,7 @@ fn change<L: Ledger, M: Ledger>(
     requires state { IsState state.old.journal state.old }
     requires legible { IsLegible (command_view command.now) }
     requires data { IsOnData (command_view command.now) }
-    requires printed { IfSome printed (λ line. line.now ≡ text_of (command_view command.now)) }
+    requires printed { IfSome printed (λ line. IsLineOf line.now (command_view command.now)) }
     ensures state { IsState state.new.journal state.new }
     ensures indexes { KeepsIndexes state.old state.new }
     ensures carries { CarriesOut (command_view command.now)
@@ -231,7 +231,7 @@ fn follow<L: Ledger, M: Ledger>(
     requires changed { IsChanged (command_view command.now) before change.now state.old }
     requires legible { IsLegible (command_view command.now) }
     requires data { IsOnData (command_view command.now) }
-    requires printed { IfSome printed (λ line. line.now ≡ text_of (command_view command.now)) }
+    requires printed { IfSome printed (λ line. IsLineOf line.now (command_view command.now)) }
     ensures follows { Follows (command_view command.now) before change.now state.old state.new out.old.items out.new.items result }
     ensures spends { Spends (command_view command.now)
         (moment (held state.old.journal) out.old.items reads.old probes.old)

@@ -1,5 +1,5 @@
 //! Sessions that were saved, loaded again.
-ghost use Rattle.std.specs.Prelude.{◌≡◌, ◌+◌, ◌≤◌, [], Err, IfErr, IfOk, IfSome};
+ghost use Rattle.std.specs.Prelude.{◌≡◌, ◌+◌, [], Err, IfErr, IfOk, IfSome};
 ghost use Rattle.command_text.specs.Tree.{command_view};
 ghost use Rattle.session_file.specs.Kept.{HasLine};
 ghost use Rattle.session_file.specs.Reading.{ExplainsReading, GivesNextCommand, loaded_view, reading_of};
@@ -7,6 +7,7 @@ ghost use Rattle.line_meaning.specs.Loading.{BadLine, replayed};
 ghost use Rattle.line_meaning.specs.Looks.{most_looks};
 ghost use Rattle.line_meaning.specs.Step.{held};
 ghost use Rattle.session.specs.Loads.{Loads, TakesLoaded, looks_of_loading};
+ghost use Rattle.steps.specs.Counting.{StepsAtMost};
 
 use crate::next::Next;
 use crate::session::Session;
@@ -50,8 +51,7 @@ pub fn load<L: Ledger, M: Ledger>(
     probes: &mut Steps<M>,
 ) -> Result<Session, LoadFault>
     ensures loads { Loads text.now result }
-    ensures least { reads.old ≤ reads.new }
-    ensures most { reads.new ≤ reads.old + looks_of_loading text.now }
+    ensures reads { StepsAtMost reads.old reads.new (looks_of_loading text.now) }
 {
     match SessionReader::new(alloc, text) {
         Ok(reader) => replay_commands(alloc, text, reader, reads, probes),
@@ -82,8 +82,7 @@ fn replay_commands<L: Ledger, M: Ledger>(
 ) -> Result<Session, LoadFault>
     requires { reader ≡ reading_of text.now }
     ensures loads { Loads text.now result }
-    ensures least { reads.old ≤ reads.new }
-    ensures most { reads.new ≤ reads.old + looks_of_loading text.now }
+    ensures reads { StepsAtMost reads.old reads.new (looks_of_loading text.now) }
 {
     let mut session = Session::new(alloc);
     'commands: while let Some(loaded) = next_command(text, &mut reader)? {
@@ -117,8 +116,7 @@ fn is_taken<L: Ledger, M: Ledger>(
 ) -> Result<bool, AllocError>
     requires { HasLine (command_view command) }
     ensures takes { IfOk result (TakesLoaded session.old (command_view command) session.new) }
-    ensures least { reads.old ≤ reads.new }
-    ensures most { reads.new ≤ reads.old + most_looks (held session.old.journal) (command_view command) }
+    ensures reads { StepsAtMost reads.old reads.new (most_looks (held session.old.journal) (command_view command)) }
 {
     read_commands_are_printable();
     canonical_lines_are_read_back();

@@ -1,7 +1,7 @@
 //! The state of the database, one line at a time.
 ghost use Rattle.std.specs.Prelude.{◌≡◌, ◌+◌, ◌≤◌, true, false, [], IfOk};
 ghost use Rattle.command_text.specs.Journal.{clock, is_kept, spelled};
-ghost use Rattle.command_text.specs.Text.{text_of};
+ghost use Rattle.command_text.specs.Text.{IsLineOf};
 ghost use Rattle.command_text.specs.Tree.{command_view};
 ghost use Rattle.line_meaning.specs.Journal.{world};
 ghost use Rattle.line_meaning.specs.Looks.{is_query, looks_of, most_looks};
@@ -14,6 +14,7 @@ ghost use Rattle.session.specs.Replayed.{Replays};
 ghost use Rattle.session.specs.State.{holds, IsIndexed, IsState};
 ghost use Rattle.session.specs.Answers.{Applies, HasFaultCause, IsUnread, Suffices};
 ghost use Rattle.session.specs.Untold.{AppliesBySome};
+ghost use Rattle.steps.specs.Counting.{StepsAtMost};
 
 use crate::answer::{carry_out, end};
 use crate::filing::file;
@@ -161,7 +162,7 @@ impl Session {
     ) -> Result<Next, AllocError>
         requires legible { IsLegible (command_view command.now) }
         requires plain { asks_shelf (command_view command.now) ≡ false }
-        requires line { line.now ≡ text_of (command_view command.now) }
+        requires line { IsLineOf line.now (command_view command.now) }
         ensures carried { Carried (command_view command.now)
             (moment self.old out.old.items reads.old probes.old) (moment self.new out.new.items reads.new probes.new) result }
         ensures room { IfOk result (λ next. HasRoomFor next out.new) }
@@ -181,8 +182,7 @@ impl Session {
         requires kept { is_kept (command_view command) ≡ true }
         requires legible { IsLegible (command_view command) }
         ensures replayed { Replays self.old (command_view command) self.new result }
-        ensures least { reads.old ≤ reads.new }
-        ensures most { reads.new ≤ reads.old + most_looks (held self.old.journal) (command_view command) }
+        ensures reads { StepsAtMost reads.old reads.new (most_looks (held self.old.journal) (command_view command)) }
         ensures unread { IfOk result (λ next. IsUnread next reads.old reads.new) }
         ensures unprobed { IfOk result (λ next. IsUnread next probes.old probes.new) }
     {

@@ -2,12 +2,14 @@
 ghost use Rattle.std.specs.Prelude.{◌≡◌, ◌+◌, ◌≤◌, ◌++◌, ◌∷◌, [], decimal, length, codes, IfOk, OnOk, IfSome};
 ghost use Rattle.std.specs.List.{flat_map};
 ghost use Rattle.tick_set.specs.declared.spans.TheConstants.{LAST_TICK};
+ghost use Rattle.tick_set.specs.Ticks.{IsTick};
 ghost use Rattle.command_text.specs.Tree.{CommandTree};
 ghost use Rattle.command_text.specs.Text.{text_of};
 ghost use Rattle.session_file.specs.Counts.{counts_line};
 ghost use Rattle.command_text.specs.Journal.{clock, ticks_of};
 ghost use Rattle.session_file.specs.Reading.{header};
 ghost use Rattle.session_file.specs.Text.{ended_line, entry_text, session_text};
+ghost use Rattle.steps.specs.Counting.{StepsAtMost};
 
 use crate::counts::whole_at;
 use command_text::Journal;
@@ -55,7 +57,7 @@ fn push_head(text: &mut Vec<u8>, commands: u64, ticks: u64) -> Result<(), AllocE
 #[tactic(auto, using(crate::proofs::TextLemmas::tick_steps))]
 fn ticks_of_line(line: &[u8]) -> u64
     ensures ticks { (c : CommandTree) → line.now ≡ text_of c → ticks_of c ≤ LAST_TICK → result ≡ ticks_of c }
-    ensures small { result ≤ LAST_TICK }
+    ensures small { IsTick result }
 {
     match line.strip_prefix(b"tick ") {
         Some(ticks) => match whole_at(u64::from(LAST_TICK), ticks) {
@@ -72,11 +74,10 @@ fn push_entries<L: Ledger>(
     journal: &Journal,
     reads: &mut Steps<L>,
 ) -> Result<u64, AllocError>
-    requires { clock journal.now ≤ LAST_TICK }
+    requires { IsTick (clock journal.now) }
     ensures text { OnOk result (text.new.items ≡ text.old.items ++ flat_map entry_text journal.now) }
     ensures ticks { IfOk result (λ ticks. ticks ≡ clock journal.now) }
-    ensures least { reads.old ≤ reads.new }
-    ensures reads { reads.new ≤ reads.old + length journal.now }
+    ensures reads { StepsAtMost reads.old reads.new (length journal.now) }
 {
     let mut ticks = 0;
     'entries: for i in 0..journal.len() {
@@ -94,10 +95,9 @@ pub fn save_text<L: Ledger>(
     journal: &Journal,
     reads: &mut Steps<L>,
 ) -> Result<Vec<u8>, AllocError>
-    requires { clock journal.now ≤ LAST_TICK }
+    requires { IsTick (clock journal.now) }
     ensures text { IfOk result (λ text. text.items ≡ session_text journal.now) }
-    ensures least { reads.old ≤ reads.new }
-    ensures reads { reads.new ≤ reads.old + length journal.now }
+    ensures reads { StepsAtMost reads.old reads.new (length journal.now) }
 {
     let mut text = Vec::with_capacity(alloc, journal.bytes() as usize + FRAME)?;
     let ticks = push_entries(&mut text, journal, reads)?;

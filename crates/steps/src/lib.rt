@@ -6,6 +6,7 @@
 #![tactic(auto)]
 
 ghost use Rattle.std.specs.Prelude.{◌≡◌, ◌+◌, ◌<◌};
+ghost use Rattle.steps.specs.Counting.{IsBlankOf};
 
 use std::marker::Model;
 use std::sync::ledger::{Blank, Book, Ledger, Share};
@@ -35,9 +36,7 @@ impl<L: Ledger> Steps<L> {
     /// Only `main` and tests have the runtime, so no call below them can count on a counter of its own and
     /// leave the one that it was given as it is.
     pub fn new(_runtime: &HostRuntime, blank: Blank) -> Self
-        requires name { blank.name ≡ L.name }
-        requires parts { blank.parts ≡ L.parts }
-        requires some_part { 0 < blank.parts }
+        requires { IsBlankOf blank.name blank.parts L.name L.parts }
         ensures { result ≡ 0 }
     {
         let (book, share) = blank.open();

@@ -3,3 +3,4 @@ pub mod Runs
 pub mod SetOperation
 pub mod TickList
 pub mod Ticks
+pub mod Windows

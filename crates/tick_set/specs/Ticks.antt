@@ -1,6 +1,7 @@
 -- Ticks are whole numbers. A set of ticks is a test of numbers.
 use Rattle.std.specs.Prelude.{◌≡◌, ℕ, ◌+◌, ◌-◌, ◌≤◌, Bool, true, ◌&&◌, nat_le, List, filter}
 use Rattle.std.specs.List.{range_with_len, list_any, list_all}
+use Rattle.tick_set.specs.declared.spans.TheConstants.{LAST_TICK}
 
 -- whether t is one of lo to hi, both included
 abbrev pub within : ℕ → ℕ → ℕ → Bool
@@ -28,3 +29,7 @@ some_in test lo hi = list_any test (between lo (hi + 1))
 
 unfoldable pub all_in : (ℕ → Bool) → ℕ → ℕ → Bool
 all_in test lo hi = list_all test (between lo (hi + 1))
+
+-- the number is one of a tick
+abbrev pub IsTick : ℕ → Type 0
+IsTick t = t ≤ LAST_TICK

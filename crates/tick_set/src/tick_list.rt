@@ -1,6 +1,6 @@
 //! The plain set: a list of its ticks.
 ghost use Rattle.std.specs.Prelude.{◌≡◌, ◌≤◌, ◌<◌, ◌+◌, ◌&&◌, ◌||◌, ◌==◌, ◌++◌, [], ◌∷◌, ℕ, true, false, length, nat_le, nat_lt, IsTrue, if◌then◌else◌, IfSome, IfNone, IfOk, OnOk, OnErr};
-ghost use Rattle.tick_set.specs.Ticks.{within};
+ghost use Rattle.tick_set.specs.Ticks.{IsTick, within};
 ghost use Rattle.tick_set.specs.TickList.{has, IsAscending, IsAscendingFrom};
 ghost use Rattle.tick_set.specs.SetOperation.{kept};
 ghost use Rattle.tick_set.specs.Runs.{IsRuns};
@@ -30,7 +30,7 @@ impl TickList {
     /// Adds a tick above all that are there. After an error the set is unchanged.
     pub fn push(&mut self, t: u32) -> Result<(), AllocError>
         requires above { (u : ℕ) → has self.old u ≡ true → u < t }
-        requires in_range { t ≤ LAST_TICK }
+        requires in_range { IsTick t }
         ensures ok { OnOk result (self.new ≡ self.old ++ t ∷ []) }
         ensures members { OnOk result ((u : ℕ) → has self.new u ≡ (has self.old u || t == u)) }
         ensures err { OnErr result (self.new ≡ self.old) }
@@ -237,7 +237,7 @@ fn least(first: &[u32], second: &[u32]) -> Option<u32>
     ensures some { IfSome result (λ t. (has first.now t || has second.now t) ≡ true) }
     ensures least { IfSome result
         (λ t. IsAscendingFrom t first.now × IsAscendingFrom t second.now) }
-    ensures in_range { IfSome result (λ t. t ≤ LAST_TICK) }
+    ensures in_range { IfSome result (λ t. IsTick t) }
 {
     match (first.first(), second.first()) {
         (Some(t), Some(u)) => Some((*t).min(*u)),
@@ -267,7 +267,7 @@ fn taken(ticks: &[u32], t: u32) -> (bool, &[u32])
 
 // The run that begins with the tick `first`, and the ticks past it. `later` are the ticks after `first`.
 fn run_from(first: u32, later: &[u32]) -> (Span, &[u32])
-    requires in_range { first ≤ LAST_TICK }
+    requires in_range { IsTick first }
     requires ascending { IsAscendingFrom (first + 1) later.now }
     ensures lo { result.0.lo ≡ first }
     ensures apart { IsAscendingFrom (result.0.hi + 2) result.1.now }

@@ -1,12 +1,12 @@
 //! The operators on a list of ticks: each tick of the window is judged by itself, as the definitions say.
 ghost use Rattle.std.specs.Prelude.{◌≡◌, ◌≤◌, ◌+◌, ℕ, true, false, min, IfOk};
-ghost use Rattle.tick_set.specs.Ticks.{within, some_in, all_in};
+ghost use Rattle.tick_set.specs.Ticks.{within, some_in, all_in, IsTick};
 ghost use Rattle.tick_set.specs.Operators.{until_in};
 ghost use Rattle.tick_set.specs.TickList.{has};
 
 use crate::Temporal;
 use std::alloc::{AllocError, Global};
-use tick_set::{LAST_TICK, TickList, TickSet, Window};
+use tick_set::{TickList, TickSet, Window};
 
 // `c` is added to a tick only where the sum is at most the window's last tick.
 impl Temporal for TickList {
@@ -70,7 +70,7 @@ fn reach(t: u32, c: u32, last: u32) -> u32
 // Whether some tick of `from` to `upto` is in h, where g has each one from `t` up to it.
 fn leads(g: &TickList, h: &TickList, t: u32, from: u32, upto: u32) -> bool
     requires starts { t ≤ from }
-    requires in_range { upto ≤ LAST_TICK }
+    requires in_range { IsTick upto }
     ensures { result ≡ until_in (has g.now) (has h.now) from upto t }
 {
     for u in t..=upto {
@@ -87,7 +87,7 @@ fn leads(g: &TickList, h: &TickList, t: u32, from: u32, upto: u32) -> bool
 // The same for the ticks to `last` that are at least `c` after `t`.
 fn leads_after(g: &TickList, h: &TickList, t: u32, c: u32, last: u32) -> bool
     requires counts { t ≤ last }
-    requires in_range { last ≤ LAST_TICK }
+    requires in_range { IsTick last }
     ensures { result ≡ until_in (has g.now) (has h.now) (t + c) last t }
 {
     c <= last - t && leads(g, h, t, t + c, last)
@@ -95,7 +95,7 @@ fn leads_after(g: &TickList, h: &TickList, t: u32, c: u32, last: u32) -> bool
 
 // Whether some tick of `from` to `upto` is in the set.
 fn has_some(set: &TickList, from: u32, upto: u32) -> bool
-    requires { upto ≤ LAST_TICK }
+    requires { IsTick upto }
     ensures { result ≡ some_in (has set.now) from upto }
 {
     for t in from..=upto {
@@ -109,7 +109,7 @@ fn has_some(set: &TickList, from: u32, upto: u32) -> bool
 // The same for the ticks to `last` that are at least `c` after `t`.
 fn has_some_after(set: &TickList, t: u32, c: u32, last: u32) -> bool
     requires counts { t ≤ last }
-    requires in_range { last ≤ LAST_TICK }
+    requires in_range { IsTick last }
     ensures { result ≡ some_in (has set.now) (t + c) last }
 {
     c <= last - t && has_some(set, t + c, last)
@@ -117,7 +117,7 @@ fn has_some_after(set: &TickList, t: u32, c: u32, last: u32) -> bool
 
 // Whether each tick of `from` to `upto` is in the set.
 fn has_all(set: &TickList, from: u32, upto: u32) -> bool
-    requires { upto ≤ LAST_TICK }
+    requires { IsTick upto }
     ensures { result ≡ all_in (has set.now) from upto }
 {
     for t in from..=upto {

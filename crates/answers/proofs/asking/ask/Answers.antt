@@ -1,4 +1,4 @@
-use Rattle.std.proofs.Common.{◌≡◌, ℕ, ◌+◌, ◌-◌, List, ap, sym, subst, ◌∙◌}
+use Rattle.std.proofs.Common.{◌≡◌, ℕ, ◌+◌, ◌-◌, List, ap, sym, subst, ◌∙◌, arith}
 use Rattle.formula.specs.Tree.{resolved_view}
 use Rattle.meaning.specs.Binding.{holds_full}
 use Rattle.object_store.specs.Contents.{catalog_of}
@@ -25,17 +25,23 @@ returns-clause-rows g c =
     c.in_ok-answer.ensures.rows w (holds_full w (resolved_view c.args.q.now) c.args.w.hi) (own ∙ c.in_ok-domains.ensures)
     (λ b is_in. c.in_ok-full.ensures.rows b (subst (λ (d : List (List ℕ)). IsIn d b) own is_in))
 
-pub returns-in_err-full-clause-most : goal.returns-in_err-full-clause-most
-returns-in_err-full-clause-most g c =
-    most_within _ _ _ _ c.in_err-full.ensures.most
-    (reads_within (catalog_of c.args.store.now) (resolved_view c.args.q.now) _ (c.args.w.hi + 1 - c.args.w.lo) c.in_ok-domains.ensures)
+pub returns-in_err-full-clause-reads : goal.returns-in_err-full-clause-reads
+returns-in_err-full-clause-reads g c = record {
+  least = omega arith;
+  most = (most_within _ _ _ _ c.in_err-full.ensures.reads.most
+      (reads_within (catalog_of c.args.store.now) (resolved_view c.args.q.now) _ (c.args.w.hi + 1 - c.args.w.lo) c.in_ok-domains.ensures));
+}
 
-pub returns-in_err-answer-clause-most : goal.returns-in_err-answer-clause-most
-returns-in_err-answer-clause-most g c =
-    most_within _ _ _ _ c.in_ok-full.ensures.most
-    (reads_within (catalog_of c.args.store.now) (resolved_view c.args.q.now) _ (c.args.w.hi + 1 - c.args.w.lo) c.in_ok-domains.ensures)
+pub returns-in_err-answer-clause-reads : goal.returns-in_err-answer-clause-reads
+returns-in_err-answer-clause-reads g c = record {
+  least = omega arith;
+  most = (most_within _ _ _ _ c.in_ok-full.ensures.reads.most
+      (reads_within (catalog_of c.args.store.now) (resolved_view c.args.q.now) _ (c.args.w.hi + 1 - c.args.w.lo) c.in_ok-domains.ensures));
+}
 
-pub returns-clause-most : goal.returns-clause-most
-returns-clause-most g c =
-    most_within _ _ _ _ c.in_ok-full.ensures.most
-    (reads_within (catalog_of c.args.store.now) (resolved_view c.args.q.now) _ (c.args.w.hi + 1 - c.args.w.lo) c.in_ok-domains.ensures)
+pub returns-clause-reads : goal.returns-clause-reads
+returns-clause-reads g c = record {
+  least = omega arith;
+  most = (most_within _ _ _ _ c.in_ok-full.ensures.reads.most
+      (reads_within (catalog_of c.args.store.now) (resolved_view c.args.q.now) _ (c.args.w.hi + 1 - c.args.w.lo) c.in_ok-domains.ensures));
+}

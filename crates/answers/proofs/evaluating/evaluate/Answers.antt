@@ -27,23 +27,29 @@ returns-clause-rows g c =
     ap (λ (d : List (List ℕ)). has_id (ids_of_variable d v) (b v)) (sym own)
     ∙ c.in_ok-made.ensures.inside b t there v (ap (λ (vars : List ℕ). has_id vars v) c.in_ok-rows-2.ensures.vars ∙ among))
 
-pub returns-clause-most : goal.returns-clause-most
-returns-clause-most g c =
-    reads_suffice c.args.store.now c.args.regions.now (resolved_view c.args.q.now) c.args.w.lo c.args.w.hi c.args.d.now c.in-Some.some c.requires.domains
-    (subst (λ found. IfSome found (λ some. Suffice c.args.store.now c.args.regions.now (resolved_view c.args.q.now) c.args.w.lo c.args.w.hi c.args.d.now some)) c.in-Some.is c.in_ok-some.ensures)
-    (c.args.w.hi + 1 - c.args.w.lo) _ _ c.in_ok-rows-2.ensures.most
+pub returns-clause-reads : goal.returns-clause-reads
+returns-clause-reads g c = record {
+  least = omega arith;
+  most = (reads_suffice c.args.store.now c.args.regions.now (resolved_view c.args.q.now) c.args.w.lo c.args.w.hi c.args.d.now c.in-Some.some c.requires.domains
+      (subst (λ found. IfSome found (λ some. Suffice c.args.store.now c.args.regions.now (resolved_view c.args.q.now) c.args.w.lo c.args.w.hi c.args.d.now some)) c.in-Some.is c.in_ok-some.ensures)
+      (c.args.w.hi + 1 - c.args.w.lo) _ _ c.in_ok-rows-2.ensures.reads.most);
+}
 
-pub returns-in_err-made-clause-most : goal.returns-in_err-made-clause-most
-returns-in_err-made-clause-most g c =
-    reads_suffice c.args.store.now c.args.regions.now (resolved_view c.args.q.now) c.args.w.lo c.args.w.hi c.args.d.now c.in-Some.some c.requires.domains
-    (subst (λ found. IfSome found (λ some. Suffice c.args.store.now c.args.regions.now (resolved_view c.args.q.now) c.args.w.lo c.args.w.hi c.args.d.now some)) c.in-Some.is c.in_ok-some.ensures)
-    (c.args.w.hi + 1 - c.args.w.lo) _ _ c.in_ok-rows-2.ensures.most
+pub returns-in_err-made-clause-reads : goal.returns-in_err-made-clause-reads
+returns-in_err-made-clause-reads g c = record {
+  least = omega arith;
+  most = (reads_suffice c.args.store.now c.args.regions.now (resolved_view c.args.q.now) c.args.w.lo c.args.w.hi c.args.d.now c.in-Some.some c.requires.domains
+      (subst (λ found. IfSome found (λ some. Suffice c.args.store.now c.args.regions.now (resolved_view c.args.q.now) c.args.w.lo c.args.w.hi c.args.d.now some)) c.in-Some.is c.in_ok-some.ensures)
+      (c.args.w.hi + 1 - c.args.w.lo) _ _ c.in_ok-rows-2.ensures.reads.most);
+}
 
-pub returns-in_err-rows-2-clause-most : goal.returns-in_err-rows-2-clause-most
-returns-in_err-rows-2-clause-most g c =
-    reads_suffice c.args.store.now c.args.regions.now (resolved_view c.args.q.now) c.args.w.lo c.args.w.hi c.args.d.now c.in-Some.some c.requires.domains
-    (subst (λ found. IfSome found (λ some. Suffice c.args.store.now c.args.regions.now (resolved_view c.args.q.now) c.args.w.lo c.args.w.hi c.args.d.now some)) c.in-Some.is c.in_ok-some.ensures)
-    (c.args.w.hi + 1 - c.args.w.lo) _ _ c.in_err-rows-2.ensures.most
+pub returns-in_err-rows-2-clause-reads : goal.returns-in_err-rows-2-clause-reads
+returns-in_err-rows-2-clause-reads g c = record {
+  least = omega arith;
+  most = (reads_suffice c.args.store.now c.args.regions.now (resolved_view c.args.q.now) c.args.w.lo c.args.w.hi c.args.d.now c.in-Some.some c.requires.domains
+      (subst (λ found. IfSome found (λ some. Suffice c.args.store.now c.args.regions.now (resolved_view c.args.q.now) c.args.w.lo c.args.w.hi c.args.d.now some)) c.in-Some.is c.in_ok-some.ensures)
+      (c.args.w.hi + 1 - c.args.w.lo) _ _ c.in_err-rows-2.ensures.reads.most);
+}
 
 pub returns-then-not-can_hold-clause-rows : goal.returns-then-not-can_hold-clause-rows
 returns-then-not-can_hold-clause-rows g c b is_in t =

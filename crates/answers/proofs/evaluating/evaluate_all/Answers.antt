@@ -1,4 +1,4 @@
-use Rattle.std.proofs.Common.{ℕ, ◌+◌, ◌-◌, ◌&&◌, ap, sym, subst, ◌∙◌}
+use Rattle.std.proofs.Common.{ℕ, ◌+◌, ◌-◌, ◌&&◌, ap, sym, subst, ◌∙◌, arith}
 use Rattle.tick_set.specs.Ticks.{between, within}
 use Rattle.formula.specs.Tree.{formula_view, resolved_view}
 use Rattle.evaluator.specs.Interpreting.{IsOver}
@@ -47,14 +47,18 @@ pub returns-in-Some-clause-vars : goal.returns-in-Some-clause-vars
 unfolding between
 returns-in-Some-clause-vars g c = c.in_ok-near.ensures.rows.vars ∙ ap (between 0) (sym c.in-Some.ensures.two)
 
-pub returns-in-Some-clause-most : goal.returns-in-Some-clause-most
-returns-in-Some-clause-most g c =
-    let told = c.in-Some.ensures in
-    pair_looks (resolved_view c.args.q.now) c.in-Some.distance told.distance told.formula told.two (domain_size c.args.d.now) (c.args.w.hi + 1 - c.args.w.lo) _ _
-    c.in_ok-near.ensures.most
+pub returns-in-Some-clause-reads : goal.returns-in-Some-clause-reads
+returns-in-Some-clause-reads g c = record {
+  least = omega arith;
+  most = (let told = c.in-Some.ensures in
+      pair_looks (resolved_view c.args.q.now) c.in-Some.distance told.distance told.formula told.two (domain_size c.args.d.now) (c.args.w.hi + 1 - c.args.w.lo) _ _
+      c.in_ok-near.ensures.reads.most);
+}
 
-pub returns-in_err-near-clause-most : goal.returns-in_err-near-clause-most
-returns-in_err-near-clause-most g c =
-    let told = c.in-Some.ensures in
-    pair_looks (resolved_view c.args.q.now) c.in-Some.distance told.distance told.formula told.two (domain_size c.args.d.now) (c.args.w.hi + 1 - c.args.w.lo) _ _
-    c.in_err-near.ensures.most
+pub returns-in_err-near-clause-reads : goal.returns-in_err-near-clause-reads
+returns-in_err-near-clause-reads g c = record {
+  least = omega arith;
+  most = (let told = c.in-Some.ensures in
+      pair_looks (resolved_view c.args.q.now) c.in-Some.distance told.distance told.formula told.two (domain_size c.args.d.now) (c.args.w.hi + 1 - c.args.w.lo) _ _
+      c.in_err-near.ensures.reads.most);
+}

@@ -1,4 +1,4 @@
-use Rattle.std.proofs.Common.{◌≡◌, List, ℕ, ◌+◌, ◌-◌, ap, sym, subst, ◌∙◌}
+use Rattle.std.proofs.Common.{◌≡◌, List, ℕ, ◌+◌, ◌-◌, ap, sym, subst, ◌∙◌, arith}
 use Rattle.std.specs.Prelude.{IfSome}
 use Rattle.tick_set.specs.Runs.{spans_have}
 use Rattle.formula.specs.Tree.{resolved_view}
@@ -33,23 +33,29 @@ returns-clause-rows g c =
       frame = c.in_ok-made.ensures.frame ∙ ap (λ (f : Frame). frame_of c.args.d.now f.lo f.hi) c.in_ok-rows-2.ensures.rows.frame;
     }
 
-pub returns-clause-most : goal.returns-clause-most
-returns-clause-most g c =
-    let suffice : SufficeWithin c.slack-slack.result c.args.world.now.store.now c.args.world.now.regions.now (resolved_view c.args.q.now) c.args.w.lo c.args.w.hi c.args.d.now c.in-Some.some =
-    subst (λ found. IfSome found (λ some. SufficeWithin c.slack-slack.result c.args.world.now.store.now c.args.world.now.regions.now (resolved_view c.args.q.now) c.args.w.lo c.args.w.hi c.args.d.now some)) c.in-Some.is c.in_ok-some.ensures in
-    fewer_reads (resolved_view c.args.q.now) c.args.d.now c.in-Some.some suffice.fewer
-    (c.args.w.hi + 1 - c.args.w.lo) _ _ c.in_ok-rows-2.ensures.most
+pub returns-clause-reads : goal.returns-clause-reads
+returns-clause-reads g c = record {
+  least = omega arith;
+  most = (let suffice : SufficeWithin c.slack-slack.result c.args.world.now.store.now c.args.world.now.regions.now (resolved_view c.args.q.now) c.args.w.lo c.args.w.hi c.args.d.now c.in-Some.some =
+      subst (λ found. IfSome found (λ some. SufficeWithin c.slack-slack.result c.args.world.now.store.now c.args.world.now.regions.now (resolved_view c.args.q.now) c.args.w.lo c.args.w.hi c.args.d.now some)) c.in-Some.is c.in_ok-some.ensures in
+      fewer_reads (resolved_view c.args.q.now) c.args.d.now c.in-Some.some suffice.fewer
+      (c.args.w.hi + 1 - c.args.w.lo) _ _ c.in_ok-rows-2.ensures.reads.most);
+}
 
-pub returns-in_err-made-clause-most : goal.returns-in_err-made-clause-most
-returns-in_err-made-clause-most g c =
-    let suffice : SufficeWithin c.slack-slack.result c.args.world.now.store.now c.args.world.now.regions.now (resolved_view c.args.q.now) c.args.w.lo c.args.w.hi c.args.d.now c.in-Some.some =
-    subst (λ found. IfSome found (λ some. SufficeWithin c.slack-slack.result c.args.world.now.store.now c.args.world.now.regions.now (resolved_view c.args.q.now) c.args.w.lo c.args.w.hi c.args.d.now some)) c.in-Some.is c.in_ok-some.ensures in
-    fewer_reads (resolved_view c.args.q.now) c.args.d.now c.in-Some.some suffice.fewer
-    (c.args.w.hi + 1 - c.args.w.lo) _ _ c.in_ok-rows-2.ensures.most
+pub returns-in_err-made-clause-reads : goal.returns-in_err-made-clause-reads
+returns-in_err-made-clause-reads g c = record {
+  least = omega arith;
+  most = (let suffice : SufficeWithin c.slack-slack.result c.args.world.now.store.now c.args.world.now.regions.now (resolved_view c.args.q.now) c.args.w.lo c.args.w.hi c.args.d.now c.in-Some.some =
+      subst (λ found. IfSome found (λ some. SufficeWithin c.slack-slack.result c.args.world.now.store.now c.args.world.now.regions.now (resolved_view c.args.q.now) c.args.w.lo c.args.w.hi c.args.d.now some)) c.in-Some.is c.in_ok-some.ensures in
+      fewer_reads (resolved_view c.args.q.now) c.args.d.now c.in-Some.some suffice.fewer
+      (c.args.w.hi + 1 - c.args.w.lo) _ _ c.in_ok-rows-2.ensures.reads.most);
+}
 
-pub returns-in_err-rows-2-clause-most : goal.returns-in_err-rows-2-clause-most
-returns-in_err-rows-2-clause-most g c =
-    let suffice : SufficeWithin c.slack-slack.result c.args.world.now.store.now c.args.world.now.regions.now (resolved_view c.args.q.now) c.args.w.lo c.args.w.hi c.args.d.now c.in-Some.some =
-    subst (λ found. IfSome found (λ some. SufficeWithin c.slack-slack.result c.args.world.now.store.now c.args.world.now.regions.now (resolved_view c.args.q.now) c.args.w.lo c.args.w.hi c.args.d.now some)) c.in-Some.is c.in_ok-some.ensures in
-    fewer_reads (resolved_view c.args.q.now) c.args.d.now c.in-Some.some suffice.fewer
-    (c.args.w.hi + 1 - c.args.w.lo) _ _ c.in_err-rows-2.ensures.most
+pub returns-in_err-rows-2-clause-reads : goal.returns-in_err-rows-2-clause-reads
+returns-in_err-rows-2-clause-reads g c = record {
+  least = omega arith;
+  most = (let suffice : SufficeWithin c.slack-slack.result c.args.world.now.store.now c.args.world.now.regions.now (resolved_view c.args.q.now) c.args.w.lo c.args.w.hi c.args.d.now c.in-Some.some =
+      subst (λ found. IfSome found (λ some. SufficeWithin c.slack-slack.result c.args.world.now.store.now c.args.world.now.regions.now (resolved_view c.args.q.now) c.args.w.lo c.args.w.hi c.args.d.now some)) c.in-Some.is c.in_ok-some.ensures in
+      fewer_reads (resolved_view c.args.q.now) c.args.d.now c.in-Some.some suffice.fewer
+      (c.args.w.hi + 1 - c.args.w.lo) _ _ c.in_err-rows-2.ensures.reads.most);
+}

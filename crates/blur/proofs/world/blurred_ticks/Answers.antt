@@ -41,10 +41,12 @@ returns-in-Inside-clause-ticks g c =
     (inside_ticks world.blur.sure world.blur.error (world_in world.store.now world.regions.now) b c.args.atom.now c.in-Inside.v c.in-Inside.n c.args.env.now c.object_of.result c.in-Inside.is c.object_of.ensures)
     c.region_ticks.ensures.ticks
 
-pub returns-in-Inside-clause-most : goal.returns-in-Inside-clause-most
-returns-in-Inside-clause-most g c =
-    let looks = inside_looks c.args.world.now.store.now c.args.w.lo c.args.w.hi (slice_index c.args.binding.now) c.args.atom.now c.in-Inside.v c.in-Inside.n c.requires c.in-Inside.is in
-    omega (arith, looks, c.region_ticks.ensures.step)
+pub returns-in-Inside-clause-reads : goal.returns-in-Inside-clause-reads
+returns-in-Inside-clause-reads g c = record {
+  least = omega arith;
+  most = (let looks = inside_looks c.args.world.now.store.now c.args.w.lo c.args.w.hi (slice_index c.args.binding.now) c.args.atom.now c.in-Inside.v c.in-Inside.n c.requires c.in-Inside.is in
+      omega (arith, looks, c.region_ticks.ensures.step));
+}
 
 pub returns-in-Outside-clause-ticks : goal.returns-in-Outside-clause-ticks
 returns-in-Outside-clause-ticks g c =
@@ -56,10 +58,12 @@ returns-in-Outside-clause-ticks g c =
     (outside_ticks world.blur.sure world.blur.error (world_in world.store.now world.regions.now) b c.args.atom.now c.in-Outside.v c.in-Outside.n c.args.env.now c.object_of-in-Outside.result c.in-Outside.is c.object_of-in-Outside.ensures)
     c.region_ticks-in-Outside.ensures.ticks
 
-pub returns-in-Outside-clause-most : goal.returns-in-Outside-clause-most
-returns-in-Outside-clause-most g c =
-    let looks = outside_looks c.args.world.now.store.now c.args.w.lo c.args.w.hi (slice_index c.args.binding.now) c.args.atom.now c.in-Outside.v c.in-Outside.n c.requires c.in-Outside.is in
-    omega (arith, looks, c.region_ticks-in-Outside.ensures.step)
+pub returns-in-Outside-clause-reads : goal.returns-in-Outside-clause-reads
+returns-in-Outside-clause-reads g c = record {
+  least = omega arith;
+  most = (let looks = outside_looks c.args.world.now.store.now c.args.w.lo c.args.w.hi (slice_index c.args.binding.now) c.args.atom.now c.in-Outside.v c.in-Outside.n c.requires c.in-Outside.is in
+      omega (arith, looks, c.region_ticks-in-Outside.ensures.step));
+}
 
 pub returns-in-Dist-clause-ticks : goal.returns-in-Dist-clause-ticks
 returns-in-Dist-clause-ticks g c =
@@ -75,8 +79,10 @@ returns-in-Dist-clause-ticks g c =
     c.object_of-first.ensures c.object_of-second.ensures)
     c.distance_ticks.ensures.ticks
 
-pub returns-in-Dist-clause-most : goal.returns-in-Dist-clause-most
-returns-in-Dist-clause-most g c =
-    let looks = distance_looks c.args.world.now.store.now c.args.w.lo c.args.w.hi (slice_index c.args.binding.now) c.args.atom.now c.in-Dist.v c.in-Dist.u c.in-Dist.op c.in-Dist.c
-    c.object_of-first.result c.object_of-second.result c.requires c.in-Dist.is c.object_of-first.ensures c.object_of-second.ensures in
-    omega (arith, looks, c.distance_ticks.ensures.step)
+pub returns-in-Dist-clause-reads : goal.returns-in-Dist-clause-reads
+returns-in-Dist-clause-reads g c = record {
+  least = omega arith;
+  most = (let looks = distance_looks c.args.world.now.store.now c.args.w.lo c.args.w.hi (slice_index c.args.binding.now) c.args.atom.now c.in-Dist.v c.in-Dist.u c.in-Dist.op c.in-Dist.c
+      c.object_of-first.result c.object_of-second.result c.requires c.in-Dist.is c.object_of-first.ensures c.object_of-second.ensures in
+      omega (arith, looks, c.distance_ticks.ensures.step));
+}

@@ -8,7 +8,7 @@ use Rattle.distance_crossing.proofs.circle.sides_fit.Goals as goal
 pub returns-then-longest-width : goal.returns-then-longest-width
 returns-then-longest-width c =
     let longest : c.max-longest.result ≡ largest c.args.a c.args.b c.args.c = grind (arith, steps) in
-    too_wide c.args.a c.args.b c.args.c c.args.area c.requires.a_least c.requires.b_least c.requires.c_least c.requires.a_and_b c.requires.b_and_c c.requires.c_and_a
+    too_wide c.args.a c.args.b c.args.c c.args.area c.requires.squares.a_least c.requires.squares.b_least c.requires.squares.c_least c.requires.a_and_b c.requires.b_and_c c.requires.c_and_a
     c.args.r c.squared_width-width.result c.max-longest.result c.squared_width-width.ensures.value (width_least c.args.r c.squared_width-width.result c.squared_width-width.ensures.value)
     longest (omega (arith, ints))
 
@@ -19,26 +19,21 @@ returns-then-is_wide c =
     wide_fits c.args.r c.args.a c.args.b c.args.c c.args.area c.squared_width-width.result c.max-longest.result c.squared_width-width.ensures.value
     longest (omega (arith, ints)) wide
 
-pub corners_fit-requires-clause-a_most : goal.corners_fit-requires-clause-a_most
-corners_fit-requires-clause-a_most c =
-    let longest : c.max-longest.result ≡ largest c.args.a c.args.b c.args.c = grind (arith, steps) in
-    let most = sides_most c.args.a c.args.b c.args.c c.max-longest.result c.squared_width-width.result longest c.requires.a_least c.requires.b_least c.requires.c_least
-    (omega (arith, ints)) c.squared_width-width.ensures.size in
-    grind (arith, steps, most.0)
-
-pub corners_fit-requires-clause-b_most : goal.corners_fit-requires-clause-b_most
-corners_fit-requires-clause-b_most c =
-    let longest : c.max-longest.result ≡ largest c.args.a c.args.b c.args.c = grind (arith, steps) in
-    let most = sides_most c.args.a c.args.b c.args.c c.max-longest.result c.squared_width-width.result longest c.requires.a_least c.requires.b_least c.requires.c_least
-    (omega (arith, ints)) c.squared_width-width.ensures.size in
-    grind (arith, steps, most.1)
-
-pub corners_fit-requires-clause-c_most : goal.corners_fit-requires-clause-c_most
-corners_fit-requires-clause-c_most c =
-    let longest : c.max-longest.result ≡ largest c.args.a c.args.b c.args.c = grind (arith, steps) in
-    let most = sides_most c.args.a c.args.b c.args.c c.max-longest.result c.squared_width-width.result longest c.requires.a_least c.requires.b_least c.requires.c_least
-    (omega (arith, ints)) c.squared_width-width.ensures.size in
-    grind (arith, steps, most.2)
+pub corners_fit-requires-clause-sizes : goal.corners_fit-requires-clause-sizes
+corners_fit-requires-clause-sizes c = record {
+  a_most = (let longest : c.max-longest.result ≡ largest c.args.a c.args.b c.args.c = grind (arith, steps) in
+      let most = sides_most c.args.a c.args.b c.args.c c.max-longest.result c.squared_width-width.result longest c.requires.squares.a_least c.requires.squares.b_least c.requires.squares.c_least
+      (omega (arith, ints)) c.squared_width-width.ensures.size in
+      grind (arith, steps, most.0));
+  b_most = (let longest : c.max-longest.result ≡ largest c.args.a c.args.b c.args.c = grind (arith, steps) in
+      let most = sides_most c.args.a c.args.b c.args.c c.max-longest.result c.squared_width-width.result longest c.requires.squares.a_least c.requires.squares.b_least c.requires.squares.c_least
+      (omega (arith, ints)) c.squared_width-width.ensures.size in
+      grind (arith, steps, most.1));
+  c_most = (let longest : c.max-longest.result ≡ largest c.args.a c.args.b c.args.c = grind (arith, steps) in
+      let most = sides_most c.args.a c.args.b c.args.c c.max-longest.result c.squared_width-width.result longest c.requires.squares.a_least c.requires.squares.b_least c.requires.squares.c_least
+      (omega (arith, ints)) c.squared_width-width.ensures.size in
+      grind (arith, steps, most.2));
+}
 
 pub returns : goal.returns
 returns c =

@@ -39,19 +39,19 @@ pub returns-then-is_wide-clause-over : goal.returns-then-is_wide-clause-over
 returns-then-is_wide-clause-over c =
     let longest : c.max-longest.result ≡ largest c.args.a c.args.b c.args.c = grind (arith, steps) in
     let wide : true ≡ int_le (c.args.a +ℤ c.args.b +ℤ c.args.c -ℤ c.max-longest.result) c.max-longest.result = grind (arith, steps) in
-    wide_over c.args.a c.args.b c.args.c c.max-longest.result c.unsigned_abs.result longest (grind (arith, steps)) c.requires.a_least
+    wide_over c.args.a c.args.b c.args.c c.max-longest.result c.unsigned_abs.result longest (grind (arith, steps)) c.requires.squares.a_least
     (width_is c.args.a c.args.b c.args.c c.max-longest.result true longest wide)
 
 pub times-requires-2 : goal.times-requires-2
 times-requires-2 c =
-    let ab = mul-le (unsigned_abs c.args.a) (unsigned_abs c.args.b) 4000000000000 4000000000000 c.requires.a_most c.requires.b_most in
+    let ab = mul-le (unsigned_abs c.args.a) (unsigned_abs c.args.b) 4000000000000 4000000000000 c.requires.sizes.a_most c.requires.sizes.b_most in
     let first : unsigned_abs c.times.result ≤ 16000000000000000000000000 = grind (arith, steps) in
-    let all = mul-le (unsigned_abs c.times.result) (unsigned_abs c.args.c) 16000000000000000000000000 4000000000000 first c.requires.c_most in
+    let all = mul-le (unsigned_abs c.times.result) (unsigned_abs c.args.c) 16000000000000000000000000 4000000000000 first c.requires.sizes.c_most in
     grind (arith, steps)
 
 pub invariant_of-result-2 : goal.invariant_of-result-2
 invariant_of-result-2 c =
-    let ab = mul-le (unsigned_abs c.args.a) (unsigned_abs c.args.b) 4000000000000 4000000000000 c.requires.a_most c.requires.b_most in
+    let ab = mul-le (unsigned_abs c.args.a) (unsigned_abs c.args.b) 4000000000000 4000000000000 c.requires.sizes.a_most c.requires.sizes.b_most in
     record { short = grind (arith, steps) }
 
 pub returns-clause-over : goal.returns-clause-over
@@ -59,7 +59,7 @@ returns-clause-over c =
     let longest : c.max-longest.result ≡ largest c.args.a c.args.b c.args.c = grind (arith, steps) in
     let narrow : false ≡ int_le (c.args.a +ℤ c.args.b +ℤ c.args.c -ℤ c.max-longest.result) c.max-longest.result = grind (arith, steps) in
     let product : c.times-2.result ≡ c.args.a *ℤ c.args.b *ℤ c.args.c = grind (arith, steps) in
-    corners_over c.args.a c.args.b c.args.c c.times-2.result c.unsigned_abs-2.result product (grind (arith, steps)) c.requires.a_least c.requires.b_least c.requires.c_least
+    corners_over c.args.a c.args.b c.args.c c.times-2.result c.unsigned_abs-2.result product (grind (arith, steps)) c.requires.squares.a_least c.requires.squares.b_least c.requires.squares.c_least
     (width_is c.args.a c.args.b c.args.c c.max-longest.result false longest narrow)
 
 pub returns-clause-under : goal.returns-clause-under

@@ -11,11 +11,15 @@ by_sides-requires c =
     let d = squares_not_negative c.args.s.now c.args.p.now in
     let size = size_at_q c.args.p.now c.args.q.now c.args.s.now in
     record {
-      a_least = grind (arith, steps, a);
-      b_least = grind (arith, steps, b);
-      c_least = grind (arith, steps, d);
-      a_most = grind (arith, ints, steps, a);
-      b_most = grind (arith, ints, steps, b);
-      c_most = grind (arith, ints, steps, d);
+      squares = record {
+        a_least = grind (arith, steps, a);
+        b_least = grind (arith, steps, b);
+        c_least = grind (arith, steps, d);
+      };
+      sizes = record {
+        a_most = grind (arith, ints, steps, a);
+        b_most = grind (arith, ints, steps, b);
+        c_most = grind (arith, ints, steps, d);
+      };
       a_and_b = grind (arith, steps, size);
     }

@@ -22,11 +22,13 @@ returns-clause-runs g c =
     subst P (omega (arith, ints)) found _ refl refl
 
 pub returns-clause-cost : goal.returns-clause-cost
-returns-clause-cost g c =
-    let nearest = c.valley-nearest.result in
-    let counted = ends_cost 26 nearest (c.args.w.hi - c.args.w.lo - nearest) _ _ _ (omega arith) (omega arith) (omega arith)
-    c.first_near-first.ensures.cost c.last_near-end.ensures.cost in
-    omega (arith, counted)
+returns-clause-cost g c = record {
+  least = omega arith;
+  most = (let nearest = c.valley-nearest.result in
+      let counted = ends_cost 26 nearest (c.args.w.hi - c.args.w.lo - nearest) _ _ _ (omega arith) (omega arith) (omega arith)
+      c.first_near-first.ensures.cost c.last_near-end.ensures.cost in
+      omega (arith, counted));
+}
 
 pub returns-clause-short_cost : goal.returns-clause-short_cost
 returns-clause-short_cost g c =

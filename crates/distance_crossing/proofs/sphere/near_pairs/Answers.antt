@@ -3,16 +3,20 @@ use Rattle.distance_crossing.proofs.Pairwise.{next_pairs, pair_count, pair_count
 use Rattle.distance_crossing.proofs.sphere.near_pairs.Goals as goal
 
 pub returns-in_err-near-clause-cost : goal.returns-in_err-near-clause-cost
-returns-in_err-near-clause-cost g c =
-    let most = pair_count-most c.args.lines.now c.requires.count in
-    let more : pair_count c.loop-p.rest.now ≡ length c.in-Some.later.now + pair_count c.in-Some.later.now = next_pairs _ _ c.in-Some.p.now c.in-Some.ensures.cases.0 in
-    omega arith
+returns-in_err-near-clause-cost g c = record {
+  least = omega arith;
+  most = (let most = pair_count-most c.args.lines.now c.requires.lines.count in
+      let more : pair_count c.loop-p.rest.now ≡ length c.in-Some.later.now + pair_count c.in-Some.later.now = next_pairs _ _ c.in-Some.p.now c.in-Some.ensures.cases.0 in
+      omega arith);
+}
 
 pub returns-in_err-span-clause-cost : goal.returns-in_err-span-clause-cost
-returns-in_err-span-clause-cost g c =
-    let most = pair_count-most c.args.lines.now c.requires.count in
-    let more : pair_count c.loop-p.rest.now ≡ length c.in-Some.later.now + pair_count c.in-Some.later.now = next_pairs _ _ c.in-Some.p.now c.in-Some.ensures.cases.0 in
-    omega arith
+returns-in_err-span-clause-cost g c = record {
+  least = omega arith;
+  most = (let most = pair_count-most c.args.lines.now c.requires.lines.count in
+      let more : pair_count c.loop-p.rest.now ≡ length c.in-Some.later.now + pair_count c.in-Some.later.now = next_pairs _ _ c.in-Some.p.now c.in-Some.ensures.cases.0 in
+      omega arith);
+}
 
 pub loop-p-preserved : goal.loop-p-preserved
 loop-p-preserved g c =
@@ -26,4 +30,7 @@ loop-p-preserved g c =
     }
 
 pub returns-clause-cost : goal.returns-clause-cost
-returns-clause-cost g c = let most = pair_count-most c.args.lines.now c.requires.count in omega arith
+returns-clause-cost g c = record {
+  least = omega arith;
+  most = (let most = pair_count-most c.args.lines.now c.requires.lines.count in omega arith);
+}

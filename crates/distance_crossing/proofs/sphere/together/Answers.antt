@@ -4,7 +4,7 @@ use Rattle.distance_crossing.proofs.sphere.together.Goals as goal
 
 pub returns-in_err-near-clause-runs : goal.returns-in_err-near-clause-runs
 returns-in_err-near-clause-runs g c =
-    none_is _ _ c.from_residual.ensures (none_together c.args.r c.args.lines.now c.args.w c.requires.count c.in_err-near.ensures.runs)
+    none_is _ _ c.from_residual.ensures (none_together c.args.r c.args.lines.now c.args.w c.requires.lines.count c.in_err-near.ensures.runs)
 
 pub three_together-requires-clause-close : goal.three_together-requires-clause-close
 three_together-requires-clause-close g c =
@@ -13,7 +13,7 @@ three_together-requires-clause-close g c =
 
 pub returns-in-len3-clause-runs : goal.returns-in-len3-clause-runs
 returns-in-len3-clause-runs g c =
-    three_together c.args.r c.args.lines.now c.args.w c.requires.count c.p-item.result c.q-item.result c.s-item.result _
+    three_together c.args.r c.args.lines.now c.args.w c.requires.lines.count c.p-item.result c.q-item.result c.s-item.result _
     (list_of_three c.args.lines.now c.p-item.result c.q-item.result c.s-item.result c.in-len3.len_at_least c.in-len3.len_below c.p-item.is c.q-item.is c.s-item.is)
     (next_runs _ _ c.in_ok-near.near _ c.in_ok-near.ensures.runs c.three_together.ensures)
 
@@ -59,7 +59,7 @@ three_together-requires-in-len4-4-clause-close g c = λ t e.
 pub returns-in_err-span-in-len4-clause-runs : goal.returns-in_err-span-in-len4-clause-runs
 returns-in_err-span-in-len4-clause-runs g c =
     none_is _ _ c.from_residual-in_err-span-in-len4.ensures
-    (four_together c.args.r c.args.lines.now c.args.w c.requires.count c.p-item-then-lines-lt5.result c.q-item-then-lines-lt5.result c.s-item-then-lines-lt5.result c.u-item.result []
+    (four_together c.args.r c.args.lines.now c.args.w c.requires.lines.count c.p-item-then-lines-lt5.result c.q-item-then-lines-lt5.result c.s-item-then-lines-lt5.result c.u-item.result []
     (list_of_four c.args.lines.now c.p-item-then-lines-lt5.result c.q-item-then-lines-lt5.result c.s-item-then-lines-lt5.result c.u-item.result
     c.in-len4.len_at_least c.in-len4.len_below c.p-item-then-lines-lt5.is c.q-item-then-lines-lt5.is c.s-item-then-lines-lt5.is c.u-item.is)
     (none_runs _ _ (none_runs _ _ (none_runs _ _ (next_runs _ _ c.in_ok-near.near [] c.in_ok-near.ensures.runs c.in_err-span-in-len4.ensures)))))
@@ -67,7 +67,7 @@ returns-in_err-span-in-len4-clause-runs g c =
 pub returns-in_err-span-in-len4-2-clause-runs : goal.returns-in_err-span-in-len4-2-clause-runs
 returns-in_err-span-in-len4-2-clause-runs g c =
     none_is _ _ c.from_residual-in_err-span-in-len4-2.ensures
-    (four_together c.args.r c.args.lines.now c.args.w c.requires.count c.p-item-then-lines-lt5.result c.q-item-then-lines-lt5.result c.s-item-then-lines-lt5.result c.u-item.result []
+    (four_together c.args.r c.args.lines.now c.args.w c.requires.lines.count c.p-item-then-lines-lt5.result c.q-item-then-lines-lt5.result c.s-item-then-lines-lt5.result c.u-item.result []
     (list_of_four c.args.lines.now c.p-item-then-lines-lt5.result c.q-item-then-lines-lt5.result c.s-item-then-lines-lt5.result c.u-item.result
     c.in-len4.len_at_least c.in-len4.len_below c.p-item-then-lines-lt5.is c.q-item-then-lines-lt5.is c.s-item-then-lines-lt5.is c.u-item.is)
     (none_runs _ _ (none_runs _ _ (next_runs _ _ c.in_ok-span-in-len4.span [] (next_runs _ _ c.in_ok-near.near (c.in_ok-span-in-len4.span ∷ []) c.in_ok-near.ensures.runs c.in_ok-span-in-len4.ensures) c.in_err-span-in-len4-2.ensures))))
@@ -75,18 +75,18 @@ returns-in_err-span-in-len4-2-clause-runs g c =
 pub returns-in_err-span-in-len4-3-clause-runs : goal.returns-in_err-span-in-len4-3-clause-runs
 returns-in_err-span-in-len4-3-clause-runs g c =
     none_is _ _ c.from_residual-in_err-span-in-len4-3.ensures
-    (four_together c.args.r c.args.lines.now c.args.w c.requires.count c.p-item-then-lines-lt5.result c.q-item-then-lines-lt5.result c.s-item-then-lines-lt5.result c.u-item.result []
+    (four_together c.args.r c.args.lines.now c.args.w c.requires.lines.count c.p-item-then-lines-lt5.result c.q-item-then-lines-lt5.result c.s-item-then-lines-lt5.result c.u-item.result []
     (list_of_four c.args.lines.now c.p-item-then-lines-lt5.result c.q-item-then-lines-lt5.result c.s-item-then-lines-lt5.result c.u-item.result
     c.in-len4.len_at_least c.in-len4.len_below c.p-item-then-lines-lt5.is c.q-item-then-lines-lt5.is c.s-item-then-lines-lt5.is c.u-item.is)
     (none_runs _ _ (next_runs _ _ c.in_ok-span-in-len4-2.span [] (next_runs _ _ c.in_ok-span-in-len4.span (c.in_ok-span-in-len4-2.span ∷ []) (next_runs _ _ c.in_ok-near.near (c.in_ok-span-in-len4.span ∷ []) c.in_ok-near.ensures.runs c.in_ok-span-in-len4.ensures) c.in_ok-span-in-len4-2.ensures) c.in_err-span-in-len4-3.ensures)))
 
 pub returns-in_ok-span-in-len4-3-clause-runs : goal.returns-in_ok-span-in-len4-3-clause-runs
 returns-in_ok-span-in-len4-3-clause-runs g c =
-    four_together c.args.r c.args.lines.now c.args.w c.requires.count c.p-item-then-lines-lt5.result c.q-item-then-lines-lt5.result c.s-item-then-lines-lt5.result c.u-item.result _
+    four_together c.args.r c.args.lines.now c.args.w c.requires.lines.count c.p-item-then-lines-lt5.result c.q-item-then-lines-lt5.result c.s-item-then-lines-lt5.result c.u-item.result _
     (list_of_four c.args.lines.now c.p-item-then-lines-lt5.result c.q-item-then-lines-lt5.result c.s-item-then-lines-lt5.result c.u-item.result
     c.in-len4.len_at_least c.in-len4.len_below c.p-item-then-lines-lt5.is c.q-item-then-lines-lt5.is c.s-item-then-lines-lt5.is c.u-item.is)
     (next_runs _ _ c.in_ok-span-in-len4-3.span _ (next_runs _ _ c.in_ok-span-in-len4-2.span (c.in_ok-span-in-len4-3.span ∷ []) (next_runs _ _ c.in_ok-span-in-len4.span (c.in_ok-span-in-len4-2.span ∷ []) (next_runs _ _ c.in_ok-near.near (c.in_ok-span-in-len4.span ∷ []) c.in_ok-near.ensures.runs c.in_ok-span-in-len4.ensures) c.in_ok-span-in-len4-2.ensures) c.in_ok-span-in-len4-3.ensures) c.three_together-in-len4-4.ensures)
 
 pub returns-in_default-clause-runs : goal.returns-in_default-clause-runs
 returns-in_default-clause-runs g c =
-    few_together c.args.r c.args.lines.now c.args.w c.requires.count (c.in_ok-near.near ∷ []) (omega arith) c.in_ok-near.ensures.runs
+    few_together c.args.r c.args.lines.now c.args.w c.requires.lines.count (c.in_ok-near.near ∷ []) (omega arith) c.in_ok-near.ensures.runs

@@ -1,4 +1,4 @@
-use Rattle.std.proofs.Common.{ℕ, List, [], ◌∷◌, slice_index, sym, subst}
+use Rattle.std.proofs.Common.{ℕ, List, [], ◌∷◌, slice_index, sym, subst, arith}
 use Rattle.formula.specs.declared.value.Env.{Env}
 use Rattle.formula.specs.Tree.{formula_view, resolved_view}
 use Rattle.formula.specs.Value.{no_values}
@@ -40,38 +40,50 @@ returns-clause-ticks g c =
     c.key_of-binding.result c.new-env.result c.key_of-binding.ensures c.new-env.ensures c.in_ok-ticks.ticks c.in_ok-ticks.ensures.ticks
     c.in_ok-away.away c.in_ok-away.ensures.ticks c.in_ok-there.there c.in_ok-there.ensures
 
-pub returns-in_err-ticks-clause-most : goal.returns-in_err-ticks-clause-most
-returns-in_err-ticks-clause-most g c =
-    most_first _ _ (query_reads_upto ((c.args.id ∷ []) ∷ []) c.args.w.lo c.args.w.hi (resolved_view c.args.q.now)) (reads_here c.args.w.lo c.args.w.hi (formula_view c.args.q.now.formula)) 1
-    (reads_alone c.args.id c.args.w.lo c.args.w.hi (resolved_view c.args.q.now) c.requires.one c.requires.over)
-    c.in_err-ticks.ensures.most
+pub returns-in_err-ticks-clause-reads : goal.returns-in_err-ticks-clause-reads
+returns-in_err-ticks-clause-reads g c = record {
+  least = omega arith;
+  most = (most_first _ _ (query_reads_upto ((c.args.id ∷ []) ∷ []) c.args.w.lo c.args.w.hi (resolved_view c.args.q.now)) (reads_here c.args.w.lo c.args.w.hi (formula_view c.args.q.now.formula)) 1
+      (reads_alone c.args.id c.args.w.lo c.args.w.hi (resolved_view c.args.q.now) c.requires.one c.requires.over)
+      c.in_err-ticks.ensures.reads.most);
+}
 
-pub returns-then-is_empty-clause-most : goal.returns-then-is_empty-clause-most
-returns-then-is_empty-clause-most g c =
-    most_first _ _ (query_reads_upto ((c.args.id ∷ []) ∷ []) c.args.w.lo c.args.w.hi (resolved_view c.args.q.now)) (reads_here c.args.w.lo c.args.w.hi (formula_view c.args.q.now.formula)) 1
-    (reads_alone c.args.id c.args.w.lo c.args.w.hi (resolved_view c.args.q.now) c.requires.one c.requires.over)
-    c.in_ok-ticks.ensures.most
+pub returns-then-is_empty-clause-reads : goal.returns-then-is_empty-clause-reads
+returns-then-is_empty-clause-reads g c = record {
+  least = omega arith;
+  most = (most_first _ _ (query_reads_upto ((c.args.id ∷ []) ∷ []) c.args.w.lo c.args.w.hi (resolved_view c.args.q.now)) (reads_here c.args.w.lo c.args.w.hi (formula_view c.args.q.now.formula)) 1
+      (reads_alone c.args.id c.args.w.lo c.args.w.hi (resolved_view c.args.q.now) c.requires.one c.requires.over)
+      c.in_ok-ticks.ensures.reads.most);
+}
 
-pub returns-in_err-away-clause-most : goal.returns-in_err-away-clause-most
-returns-in_err-away-clause-most g c =
-    most_both _ _ _ (query_reads_upto ((c.args.id ∷ []) ∷ []) c.args.w.lo c.args.w.hi (resolved_view c.args.q.now)) (reads_here c.args.w.lo c.args.w.hi (formula_view c.args.q.now.formula)) 1
-    (reads_alone c.args.id c.args.w.lo c.args.w.hi (resolved_view c.args.q.now) c.requires.one c.requires.over)
-    c.in_ok-ticks.ensures.most c.in_err-away.ensures.most
+pub returns-in_err-away-clause-reads : goal.returns-in_err-away-clause-reads
+returns-in_err-away-clause-reads g c = record {
+  least = omega arith;
+  most = (most_both _ _ _ (query_reads_upto ((c.args.id ∷ []) ∷ []) c.args.w.lo c.args.w.hi (resolved_view c.args.q.now)) (reads_here c.args.w.lo c.args.w.hi (formula_view c.args.q.now.formula)) 1
+      (reads_alone c.args.id c.args.w.lo c.args.w.hi (resolved_view c.args.q.now) c.requires.one c.requires.over)
+      c.in_ok-ticks.ensures.reads.most c.in_err-away.ensures.reads.most);
+}
 
-pub returns-then-is_empty-2-clause-most : goal.returns-then-is_empty-2-clause-most
-returns-then-is_empty-2-clause-most g c =
-    most_both _ _ _ (query_reads_upto ((c.args.id ∷ []) ∷ []) c.args.w.lo c.args.w.hi (resolved_view c.args.q.now)) (reads_here c.args.w.lo c.args.w.hi (formula_view c.args.q.now.formula)) 1
-    (reads_alone c.args.id c.args.w.lo c.args.w.hi (resolved_view c.args.q.now) c.requires.one c.requires.over)
-    c.in_ok-ticks.ensures.most c.in_ok-away.ensures.most
+pub returns-then-is_empty-2-clause-reads : goal.returns-then-is_empty-2-clause-reads
+returns-then-is_empty-2-clause-reads g c = record {
+  least = omega arith;
+  most = (most_both _ _ _ (query_reads_upto ((c.args.id ∷ []) ∷ []) c.args.w.lo c.args.w.hi (resolved_view c.args.q.now)) (reads_here c.args.w.lo c.args.w.hi (formula_view c.args.q.now.formula)) 1
+      (reads_alone c.args.id c.args.w.lo c.args.w.hi (resolved_view c.args.q.now) c.requires.one c.requires.over)
+      c.in_ok-ticks.ensures.reads.most c.in_ok-away.ensures.reads.most);
+}
 
-pub returns-in_err-there-clause-most : goal.returns-in_err-there-clause-most
-returns-in_err-there-clause-most g c =
-    most_both _ _ _ (query_reads_upto ((c.args.id ∷ []) ∷ []) c.args.w.lo c.args.w.hi (resolved_view c.args.q.now)) (reads_here c.args.w.lo c.args.w.hi (formula_view c.args.q.now.formula)) 1
-    (reads_alone c.args.id c.args.w.lo c.args.w.hi (resolved_view c.args.q.now) c.requires.one c.requires.over)
-    c.in_ok-ticks.ensures.most c.in_ok-away.ensures.most
+pub returns-in_err-there-clause-reads : goal.returns-in_err-there-clause-reads
+returns-in_err-there-clause-reads g c = record {
+  least = omega arith;
+  most = (most_both _ _ _ (query_reads_upto ((c.args.id ∷ []) ∷ []) c.args.w.lo c.args.w.hi (resolved_view c.args.q.now)) (reads_here c.args.w.lo c.args.w.hi (formula_view c.args.q.now.formula)) 1
+      (reads_alone c.args.id c.args.w.lo c.args.w.hi (resolved_view c.args.q.now) c.requires.one c.requires.over)
+      c.in_ok-ticks.ensures.reads.most c.in_ok-away.ensures.reads.most);
+}
 
-pub returns-clause-most : goal.returns-clause-most
-returns-clause-most g c =
-    most_both _ _ _ (query_reads_upto ((c.args.id ∷ []) ∷ []) c.args.w.lo c.args.w.hi (resolved_view c.args.q.now)) (reads_here c.args.w.lo c.args.w.hi (formula_view c.args.q.now.formula)) 1
-    (reads_alone c.args.id c.args.w.lo c.args.w.hi (resolved_view c.args.q.now) c.requires.one c.requires.over)
-    c.in_ok-ticks.ensures.most c.in_ok-away.ensures.most
+pub returns-clause-reads : goal.returns-clause-reads
+returns-clause-reads g c = record {
+  least = omega arith;
+  most = (most_both _ _ _ (query_reads_upto ((c.args.id ∷ []) ∷ []) c.args.w.lo c.args.w.hi (resolved_view c.args.q.now)) (reads_here c.args.w.lo c.args.w.hi (formula_view c.args.q.now.formula)) 1
+      (reads_alone c.args.id c.args.w.lo c.args.w.hi (resolved_view c.args.q.now) c.requires.one c.requires.over)
+      c.in_ok-ticks.ensures.reads.most c.in_ok-away.ensures.reads.most);
+}

@@ -48,14 +48,13 @@ put_row-requires-clause-above g c =
     (next_above g.S.TickSet.member (holds_at (g.I.Interpreter.interpretation c.args.source.now) c.args.vars.now c.args.w.lo c.args.w.hi (formula_view c.args.f.now) c.args.env.now)
     c.args.id c.args.later.now c.keys.key-index c.key-item.result c.args.made.now c.keys.made (omega (arith, c.keys-test.true)) c.key-item.is c.requires.above c.requires.ascend c.keys.invariant.rows)
 
-pub returns-in_err-put_row-clause-least : goal.returns-in_err-put_row-clause-least
-returns-in_err-put_row-clause-least g c = at_most_in_turn _ _ _ c.keys.invariant.least c.in_err-put_row.ensures.least
-
-pub returns-in_err-put_row-clause-most : goal.returns-in_err-put_row-clause-most
-returns-in_err-put_row-clause-most g c =
-    steps_within c.args.reads.now c.put_row.new.reads (c.keys.key-index + 1) (length c.args.later.now) (reads_here c.args.w.lo c.args.w.hi (formula_view c.args.f.now))
-    (one_step c.args.reads.now c.keys.reads c.put_row.new.reads c.keys.key-index (reads_here c.args.w.lo c.args.w.hi (formula_view c.args.f.now)) c.keys.invariant.most c.in_err-put_row.ensures.most)
-    (omega (arith, c.keys-test.true))
+pub returns-in_err-put_row-clause-reads : goal.returns-in_err-put_row-clause-reads
+returns-in_err-put_row-clause-reads g c = record {
+  least = at_most_in_turn _ _ _ c.keys.invariant.least c.in_err-put_row.ensures.reads.least;
+  most = (steps_within c.args.reads.now c.put_row.new.reads (c.keys.key-index + 1) (length c.args.later.now) (reads_here c.args.w.lo c.args.w.hi (formula_view c.args.f.now))
+      (one_step c.args.reads.now c.keys.reads c.put_row.new.reads c.keys.key-index (reads_here c.args.w.lo c.args.w.hi (formula_view c.args.f.now)) c.keys.invariant.most c.in_err-put_row.ensures.reads.most)
+      (omega (arith, c.keys-test.true)));
+}
 
 pub keys-preserved : goal.keys-preserved
 keys-preserved g c =
@@ -63,8 +62,8 @@ keys-preserved g c =
     record {
       rows = filled_next g.S.TickSet.member truth c.args.id c.args.later.now c.keys.key-index c.key-item.result c.args.made.now c.keys.made c.put_row.new.made (omega (arith, c.keys-test.true)) c.key-item.is c.keys.invariant.rows
           (subst (λ (k : List ℕ). IsFilled g.S.TickSet.member truth (k ∷ []) c.keys.made c.put_row.new.made) c.with_first-key.ensures c.in_ok-put_row.ensures.rows);
-      least = at_most_in_turn _ _ _ c.keys.invariant.least c.in_ok-put_row.ensures.least;
-      most = one_step c.args.reads.now c.keys.reads c.put_row.new.reads c.keys.key-index (reads_here c.args.w.lo c.args.w.hi (formula_view c.args.f.now)) c.keys.invariant.most c.in_ok-put_row.ensures.most;
+      least = at_most_in_turn _ _ _ c.keys.invariant.least c.in_ok-put_row.ensures.reads.least;
+      most = one_step c.args.reads.now c.keys.reads c.put_row.new.reads c.keys.key-index (reads_here c.args.w.lo c.args.w.hi (formula_view c.args.f.now)) c.keys.invariant.most c.in_ok-put_row.ensures.reads.most;
     }
 
 pub returns-clause-rows : goal.returns-clause-rows
@@ -72,10 +71,9 @@ returns-clause-rows g c =
     subst (λ (ks : List (List ℕ)). IsFilled g.S.TickSet.member (holds_at (g.I.Interpreter.interpretation c.args.source.now) c.args.vars.now c.args.w.lo c.args.w.hi (formula_view c.args.f.now) c.args.env.now) (keys_behind c.args.id ks) c.args.made.now c.keys.made)
     (take_all c.keys.key-index c.args.later.now (omega (arith, c.keys-test.false))) c.keys.invariant.rows
 
-pub returns-clause-least : goal.returns-clause-least
-returns-clause-least g c = c.keys.invariant.least
-
-pub returns-clause-most : goal.returns-clause-most
-returns-clause-most g c =
-    steps_within c.args.reads.now c.keys.reads c.keys.key-index (length c.args.later.now) (reads_here c.args.w.lo c.args.w.hi (formula_view c.args.f.now)) c.keys.invariant.most
-    (let l : c.keys.key-index ≤ length c.args.later.now = c.keys.auto.key-index-end in omega (arith, l))
+pub returns-clause-reads : goal.returns-clause-reads
+returns-clause-reads g c = record {
+  least = c.keys.invariant.least;
+  most = (steps_within c.args.reads.now c.keys.reads c.keys.key-index (length c.args.later.now) (reads_here c.args.w.lo c.args.w.hi (formula_view c.args.f.now)) c.keys.invariant.most
+      (let l : c.keys.key-index ≤ length c.args.later.now = c.keys.auto.key-index-end in omega (arith, l)));
+}

@@ -37,10 +37,12 @@ empty-made-requires-clause-distinct g c =
 pub put_row-requires-clause-over : goal.put_row-requires-clause-over
 put_row-requires-clause-over g c = λ v h. (let o = c.requires.over v h in omega (arith, o, c.len.ensures.count, c.len.ensures.few))
 
-pub returns-in_err-put_row-clause-most : goal.returns-in_err-put_row-clause-most
-returns-in_err-put_row-clause-most g c =
-    by_keys c.args.d.now c.args.w.lo c.args.w.hi c.args.vars.now (formula_view c.args.f.now) c.requires.vars c.requires.alike c.args.reads.now c.put_row.new.reads 1 1 (one_of _ _ _ c.in_err-put_row.ensures.most) (omega arith)
-    (sym (ap (choices (domain_size c.args.d.now)) (nil_from_length c.args.vars.now c.in_default.ensures.cases)))
+pub returns-in_err-put_row-clause-reads : goal.returns-in_err-put_row-clause-reads
+returns-in_err-put_row-clause-reads g c = record {
+  least = omega arith;
+  most = (by_keys c.args.d.now c.args.w.lo c.args.w.hi c.args.vars.now (formula_view c.args.f.now) c.requires.vars c.requires.alike c.args.reads.now c.put_row.new.reads 1 1 (one_of _ _ _ c.in_err-put_row.ensures.reads.most) (omega arith)
+      (sym (ap (choices (domain_size c.args.d.now)) (nil_from_length c.args.vars.now c.in_default.ensures.cases))));
+}
 
 pub returns-in_default-clause-rows : goal.returns-in_default-clause-rows
 returns-in_default-clause-rows g c =
@@ -55,10 +57,12 @@ returns-in_default-clause-rows g c =
     (λ b is_in t. key_says j (λ p q a e x u. g.met.I.Interpreter.atom_sees c.args.source.now p q a e x u) (λ p q a e x u. g.met.I.Interpreter.term_sees c.args.source.now p q a e x u)
     f (λ v h. (let o = c.requires.over v h in omega (arith, o, c.len.ensures.count, c.len.ensures.few))) vars c.requires.vars c.args.env.now c.args.w.lo c.args.w.hi b t))
 
-pub returns-in_default-clause-most : goal.returns-in_default-clause-most
-returns-in_default-clause-most g c =
-    by_keys c.args.d.now c.args.w.lo c.args.w.hi c.args.vars.now (formula_view c.args.f.now) c.requires.vars c.requires.alike c.args.reads.now c.put_row.new.reads 1 1 (one_of _ _ _ c.in_ok-put_row.ensures.most) (omega arith)
-    (sym (ap (choices (domain_size c.args.d.now)) (nil_from_length c.args.vars.now c.in_default.ensures.cases)))
+pub returns-in_default-clause-reads : goal.returns-in_default-clause-reads
+returns-in_default-clause-reads g c = record {
+  least = omega arith;
+  most = (by_keys c.args.d.now c.args.w.lo c.args.w.hi c.args.vars.now (formula_view c.args.f.now) c.requires.vars c.requires.alike c.args.reads.now c.put_row.new.reads 1 1 (one_of _ _ _ c.in_ok-put_row.ensures.reads.most) (omega arith)
+      (sym (ap (choices (domain_size c.args.d.now)) (nil_from_length c.args.vars.now c.in_default.ensures.cases))));
+}
 
 pub put_rows-requires-clause-over : goal.put_rows-requires-clause-over
 put_rows-requires-clause-over g c = λ v h. (let o = c.requires.over v h in omega (arith, o, c.len.ensures.count, c.len.ensures.few))
@@ -78,13 +82,15 @@ put_rows-requires-clause-above g c =
     c.items-later.result.now c.of-id-items.result.now c.ids.id-index 0 c.empty-made.result c.ids.made (omega (arith, c.ids-test.true))
     (ap (λ (r : Table g.row.S.Denot). r.rows) c.empty-made.ensures) c.of-id-items.ensures.ascending c.ids.invariant.rows
 
-pub returns-in_err-put_rows-clause-most : goal.returns-in_err-put_rows-clause-most
-returns-in_err-put_rows-clause-most g c =
-    let are = subst (AreKeys c.args.d.now c.in-Some.rest.now) (sym c.items-later.ensures) c.in_ok-keys.ensures in
-    let cost = reads_here c.args.w.lo c.args.w.hi (formula_view c.args.f.now) in
-    by_blocks c.args.d.now c.args.w.lo c.args.w.hi c.args.vars.now (formula_view c.args.f.now) c.requires.vars c.requires.alike c.args.reads.now c.put_rows.new.reads (c.ids.id-index + 1) (length c.of-id-items.result.now) (length c.items-later.result.now)
-    (block_step c.args.reads.now c.ids.reads c.put_rows.new.reads c.ids.id-index (length c.items-later.result.now) cost c.ids.invariant.most c.in_err-put_rows.ensures.most) (omega (arith, c.ids-test.true))
-    ((λ i. length (c.of-id-items.ensures.value i) * are.count i) ∙ sym (ap (choices (domain_size c.args.d.now)) c.in-Some.ensures.cases.0))
+pub returns-in_err-put_rows-clause-reads : goal.returns-in_err-put_rows-clause-reads
+returns-in_err-put_rows-clause-reads g c = record {
+  least = omega arith;
+  most = (let are = subst (AreKeys c.args.d.now c.in-Some.rest.now) (sym c.items-later.ensures) c.in_ok-keys.ensures in
+      let cost = reads_here c.args.w.lo c.args.w.hi (formula_view c.args.f.now) in
+      by_blocks c.args.d.now c.args.w.lo c.args.w.hi c.args.vars.now (formula_view c.args.f.now) c.requires.vars c.requires.alike c.args.reads.now c.put_rows.new.reads (c.ids.id-index + 1) (length c.of-id-items.result.now) (length c.items-later.result.now)
+      (block_step c.args.reads.now c.ids.reads c.put_rows.new.reads c.ids.id-index (length c.items-later.result.now) cost c.ids.invariant.most c.in_err-put_rows.ensures.reads.most) (omega (arith, c.ids-test.true))
+      ((λ i. length (c.of-id-items.ensures.value i) * are.count i) ∙ sym (ap (choices (domain_size c.args.d.now)) c.in-Some.ensures.cases.0)));
+}
 
 pub ids-preserved : goal.ids-preserved
 ids-preserved g c =
@@ -94,8 +100,8 @@ ids-preserved g c =
     record {
       rows = filled_block g.S.TickSet.member truth c.items-later.result.now c.of-id-items.result.now c.ids.id-index 0 c.empty-made.result c.ids.made c.put_rows.new.made (omega (arith, c.ids-test.true)) c.ids.invariant.rows
           c.in_ok-put_rows.ensures.rows;
-      least = at_most_in_turn _ _ _ c.ids.invariant.least c.in_ok-put_rows.ensures.least;
-      most = block_step c.args.reads.now c.ids.reads c.put_rows.new.reads c.ids.id-index (length c.items-later.result.now) cost c.ids.invariant.most c.in_ok-put_rows.ensures.most;
+      least = at_most_in_turn _ _ _ c.ids.invariant.least c.in_ok-put_rows.ensures.reads.least;
+      most = block_step c.args.reads.now c.ids.reads c.put_rows.new.reads c.ids.id-index (length c.items-later.result.now) cost c.ids.invariant.most c.in_ok-put_rows.ensures.reads.most;
     }
 
 pub returns-clause-rows : goal.returns-clause-rows
@@ -118,9 +124,11 @@ returns-clause-rows g c =
     (λ b is_in t. key_says j (λ p q a e x u. g.met.I.Interpreter.atom_sees c.args.source.now p q a e x u) (λ p q a e x u. g.met.I.Interpreter.term_sees c.args.source.now p q a e x u)
     f (λ v h. (let o = c.requires.over v h in omega (arith, o, c.len.ensures.count, c.len.ensures.few))) vars c.requires.vars c.args.env.now c.args.w.lo c.args.w.hi b t))
 
-pub returns-clause-most : goal.returns-clause-most
-returns-clause-most g c =
-    let are = subst (AreKeys c.args.d.now c.in-Some.rest.now) (sym c.items-later.ensures) c.in_ok-keys.ensures in
-    by_blocks c.args.d.now c.args.w.lo c.args.w.hi c.args.vars.now (formula_view c.args.f.now) c.requires.vars c.requires.alike c.args.reads.now c.ids.reads c.ids.id-index (length c.of-id-items.result.now) (length c.items-later.result.now) c.ids.invariant.most
-    (let l : c.ids.id-index ≤ length c.of-id-items.result.now = c.ids.auto.id-index-end in omega (arith, l))
-    ((λ i. length (c.of-id-items.ensures.value i) * are.count i) ∙ sym (ap (choices (domain_size c.args.d.now)) c.in-Some.ensures.cases.0))
+pub returns-clause-reads : goal.returns-clause-reads
+returns-clause-reads g c = record {
+  least = omega arith;
+  most = (let are = subst (AreKeys c.args.d.now c.in-Some.rest.now) (sym c.items-later.ensures) c.in_ok-keys.ensures in
+      by_blocks c.args.d.now c.args.w.lo c.args.w.hi c.args.vars.now (formula_view c.args.f.now) c.requires.vars c.requires.alike c.args.reads.now c.ids.reads c.ids.id-index (length c.of-id-items.result.now) (length c.items-later.result.now) c.ids.invariant.most
+      (let l : c.ids.id-index ≤ length c.of-id-items.result.now = c.ids.auto.id-index-end in omega (arith, l))
+      ((λ i. length (c.of-id-items.ensures.value i) * are.count i) ∙ sym (ap (choices (domain_size c.args.d.now)) c.in-Some.ensures.cases.0)));
+}

@@ -61,8 +61,8 @@ places-preserved g c =
           (filled_put g.S.TickSet.member truth key c.in_ok-ticks.ticks c.places.away c.put.new.self
           (λ t. c.in_ok-ticks.ensures.ticks t ∙ ap (λ (id : ℕ). within c.args.w.lo c.args.w.hi t && not (g.I.Interpreter.present c.args.source.now id t)) same)
           c.in_ok-put.ensures.head c.in_ok-put.ensures.ticks c.in_ok-put.ensures.keys);
-      least = (let h = c.places.invariant.least in let l = c.in_ok-ticks.ensures.least in omega (arith, h, l));
-      most = (let h = c.places.invariant.most in let l = c.in_ok-ticks.ensures.most in omega (arith, h, l));
+      least = (let h = c.places.invariant.least in let l = c.in_ok-ticks.ensures.reads.least in omega (arith, h, l));
+      most = (let h = c.places.invariant.most in let l = c.in_ok-ticks.ensures.reads.most in omega (arith, h, l));
     }
 
 pub returns-clause-ticks : goal.returns-clause-ticks
@@ -75,31 +75,37 @@ returns-clause-ticks g c =
     (subst (λ (ks : List (List ℕ)). IsFilled g.S.TickSet.member truth ks c.empty-away.result c.places.away) (take_all c.places.place keys (omega (arith, many, c.places-test.false, c.len-place-end.ensures))) c.places.invariant.rows)
     c.empty-away.ensures c.requires.one
 
-pub returns-in_err-ticks-clause-most : goal.returns-in_err-ticks-clause-most
-returns-in_err-ticks-clause-most g c =
-    let rows = c.args.rows.now in
-    let are = rows_keys rows c.args.d.now c.args.var c.args.w.lo c.args.w.hi c.requires.frame c.requires.one c.rows_stand_in_order.ensures.keys c.of.result.now c.of.ensures.value c.of.ensures.ascending in
-    let many : length (keys_at rows) ≡ length rows.rows = length-map rows.rows (λ r. r.key) in
-    let few = are.few in
-    let h = c.places.invariant.most in
-    let m = c.in_err-ticks.ensures.most in
-    omega (arith, h, m, few, many, c.places-test.true, c.len-place-end.ensures)
+pub returns-in_err-ticks-clause-reads : goal.returns-in_err-ticks-clause-reads
+returns-in_err-ticks-clause-reads g c = record {
+  least = omega arith;
+  most = (let rows = c.args.rows.now in
+      let are = rows_keys rows c.args.d.now c.args.var c.args.w.lo c.args.w.hi c.requires.frame c.requires.one c.rows_stand_in_order.ensures.keys c.of.result.now c.of.ensures.value c.of.ensures.ascending in
+      let many : length (keys_at rows) ≡ length rows.rows = length-map rows.rows (λ r. r.key) in
+      let few = are.few in
+      let h = c.places.invariant.most in
+      let m = c.in_err-ticks.ensures.reads.most in
+      omega (arith, h, m, few, many, c.places-test.true, c.len-place-end.ensures));
+}
 
-pub returns-in_err-put-clause-most : goal.returns-in_err-put-clause-most
-returns-in_err-put-clause-most g c =
-    let rows = c.args.rows.now in
-    let are = rows_keys rows c.args.d.now c.args.var c.args.w.lo c.args.w.hi c.requires.frame c.requires.one c.rows_stand_in_order.ensures.keys c.of.result.now c.of.ensures.value c.of.ensures.ascending in
-    let many : length (keys_at rows) ≡ length rows.rows = length-map rows.rows (λ r. r.key) in
-    let few = are.few in
-    let h = c.places.invariant.most in
-    let m = c.in_ok-ticks.ensures.most in
-    omega (arith, h, m, few, many, c.places-test.true, c.len-place-end.ensures)
+pub returns-in_err-put-clause-reads : goal.returns-in_err-put-clause-reads
+returns-in_err-put-clause-reads g c = record {
+  least = omega arith;
+  most = (let rows = c.args.rows.now in
+      let are = rows_keys rows c.args.d.now c.args.var c.args.w.lo c.args.w.hi c.requires.frame c.requires.one c.rows_stand_in_order.ensures.keys c.of.result.now c.of.ensures.value c.of.ensures.ascending in
+      let many : length (keys_at rows) ≡ length rows.rows = length-map rows.rows (λ r. r.key) in
+      let few = are.few in
+      let h = c.places.invariant.most in
+      let m = c.in_ok-ticks.ensures.reads.most in
+      omega (arith, h, m, few, many, c.places-test.true, c.len-place-end.ensures));
+}
 
-pub returns-clause-most : goal.returns-clause-most
-returns-clause-most g c =
-    let rows = c.args.rows.now in
-    let are = rows_keys rows c.args.d.now c.args.var c.args.w.lo c.args.w.hi c.requires.frame c.requires.one c.rows_stand_in_order.ensures.keys c.of.result.now c.of.ensures.value c.of.ensures.ascending in
-    let many : length (keys_at rows) ≡ length rows.rows = length-map rows.rows (λ r. r.key) in
-    let few = are.few in
-    let h = c.places.invariant.most in
-    omega (arith, h, few, many, c.places.auto.place-end, c.len-place-end.ensures)
+pub returns-clause-reads : goal.returns-clause-reads
+returns-clause-reads g c = record {
+  least = omega arith;
+  most = (let rows = c.args.rows.now in
+      let are = rows_keys rows c.args.d.now c.args.var c.args.w.lo c.args.w.hi c.requires.frame c.requires.one c.rows_stand_in_order.ensures.keys c.of.result.now c.of.ensures.value c.of.ensures.ascending in
+      let many : length (keys_at rows) ≡ length rows.rows = length-map rows.rows (λ r. r.key) in
+      let few = are.few in
+      let h = c.places.invariant.most in
+      omega (arith, h, few, many, c.places.auto.place-end, c.len-place-end.ensures));
+}

@@ -56,8 +56,8 @@ ids-preserved g c =
           (subst (λ (k : List ℕ). IsFilled g.S.TickSet.member truth (k ∷ []) c.ids.away c.put.new.self) c.key_of.ensures
           (filled_put g.S.TickSet.member truth c.key_of.result c.in_ok-ticks.ticks c.ids.away c.put.new.self
           (λ t. c.in_ok-ticks.ensures.ticks t ∙ ap (λ (k : List ℕ). truth k t) (sym c.key_of.ensures)) c.in_ok-put.ensures.head c.in_ok-put.ensures.ticks c.in_ok-put.ensures.keys));
-      least = (let h = c.ids.invariant.least in let l = c.in_ok-ticks.ensures.least in omega (arith, h, l));
-      most = (let h = c.ids.invariant.most in let l = c.in_ok-ticks.ensures.most in omega (arith, h, l));
+      least = (let h = c.ids.invariant.least in let l = c.in_ok-ticks.ensures.reads.least in omega (arith, h, l));
+      most = (let h = c.ids.invariant.most in let l = c.in_ok-ticks.ensures.reads.most in omega (arith, h, l));
     }
 
 pub returns-clause-rows : goal.returns-clause-rows
@@ -70,34 +70,31 @@ returns-clause-rows g c =
     c.empty-away.ensures (keys_more c.args.d.now c.args.var [] ([] ∷ []) ids c.of-id-items.ensures.value c.of-id-items.ensures.ascending (keys_none c.args.d.now))
     (known_one c.args.var (length c.args.d.now) c.requires.known) (λ b is_in t. refl)
 
-pub returns-in_err-ticks-clause-least : goal.returns-in_err-ticks-clause-least
-returns-in_err-ticks-clause-least g c = let h = c.ids.invariant.least in let l = c.in_err-ticks.ensures.least in omega (arith, h, l)
+pub returns-in_err-ticks-clause-reads : goal.returns-in_err-ticks-clause-reads
+returns-in_err-ticks-clause-reads g c = record {
+  least = (let h = c.ids.invariant.least in let l = c.in_err-ticks.ensures.reads.least in omega (arith, h, l));
+  most = (let h = c.ids.invariant.most in
+      let m = c.in_err-ticks.ensures.reads.most in
+      let e = ap length c.of-id-items.ensures.value in
+      let l = c.ids-test.true in
+      omega (arith, h, m, e, l));
+}
 
-pub returns-in_err-ticks-clause-most : goal.returns-in_err-ticks-clause-most
-returns-in_err-ticks-clause-most g c =
-    let h = c.ids.invariant.most in
-    let m = c.in_err-ticks.ensures.most in
-    let e = ap length c.of-id-items.ensures.value in
-    let l = c.ids-test.true in
-    omega (arith, h, m, e, l)
+pub returns-in_err-put-clause-reads : goal.returns-in_err-put-clause-reads
+returns-in_err-put-clause-reads g c = record {
+  least = (let h = c.ids.invariant.least in let l = c.in_ok-ticks.ensures.reads.least in omega (arith, h, l));
+  most = (let h = c.ids.invariant.most in
+      let m = c.in_ok-ticks.ensures.reads.most in
+      let e = ap length c.of-id-items.ensures.value in
+      let l = c.ids-test.true in
+      omega (arith, h, m, e, l));
+}
 
-pub returns-in_err-put-clause-least : goal.returns-in_err-put-clause-least
-returns-in_err-put-clause-least g c = let h = c.ids.invariant.least in let l = c.in_ok-ticks.ensures.least in omega (arith, h, l)
-
-pub returns-in_err-put-clause-most : goal.returns-in_err-put-clause-most
-returns-in_err-put-clause-most g c =
-    let h = c.ids.invariant.most in
-    let m = c.in_ok-ticks.ensures.most in
-    let e = ap length c.of-id-items.ensures.value in
-    let l = c.ids-test.true in
-    omega (arith, h, m, e, l)
-
-pub returns-clause-least : goal.returns-clause-least
-returns-clause-least g c = c.ids.invariant.least
-
-pub returns-clause-most : goal.returns-clause-most
-returns-clause-most g c =
-    let h = c.ids.invariant.most in
-    let e = ap length c.of-id-items.ensures.value in
-    let l = c.ids.auto.id-index-end in
-    omega (arith, h, e, l)
+pub returns-clause-reads : goal.returns-clause-reads
+returns-clause-reads g c = record {
+  least = c.ids.invariant.least;
+  most = (let h = c.ids.invariant.most in
+      let e = ap length c.of-id-items.ensures.value in
+      let l = c.ids.auto.id-index-end in
+      omega (arith, h, e, l));
+}

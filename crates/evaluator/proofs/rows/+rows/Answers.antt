@@ -78,26 +78,23 @@ rows_of-returns-in_ok-made-in-One-clause-rows g t c =
     (one_rows g.S.TickSet.member (g.I.Interpreter.interpretation c.args.source.now) c.args.d.now c.args.w.lo c.args.w.hi c.args.env.now (formula_view c.in-One.part.now) c.in_ok-rows-in-One.rows c.in_ok-rows-in-One.ensures.rows c.in-One.change c.in_ok-made-in-One.made
     c.in_ok-made-in-One.ensures.ticks c.in_ok-made-in-One.ensures.vars c.in_ok-made-in-One.ensures.frame)
 
-pub rows_of-returns-in_err-rows-in-One-clause-least : goal.rows_of-returns-in_err-rows-in-One-clause-least
-rows_of-returns-in_err-rows-in-One-clause-least g t c = c.in_err-rows-in-One.ensures.least
+pub rows_of-returns-in_err-rows-in-One-clause-reads : goal.rows_of-returns-in_err-rows-in-One-clause-reads
+rows_of-returns-in_err-rows-in-One-clause-reads g t c = record {
+  least = c.in_err-rows-in-One.ensures.reads.least;
+  most = most_same _ _ (reads_upto c.args.d.now c.args.w.lo c.args.w.hi (formula_view c.args.f.now)) (reads_upto c.args.d.now c.args.w.lo c.args.w.hi (formula_view c.in-One.part.now)) (ap (reads_upto c.args.d.now c.args.w.lo c.args.w.hi) (sym c.in-One.ensures) ∙ changed_reads (domain_size c.args.d.now) (c.args.w.hi + 1 - c.args.w.lo) c.in-One.change (formula_view c.in-One.part.now)) c.in_err-rows-in-One.ensures.reads.most;
+}
 
-pub rows_of-returns-in_err-rows-in-One-clause-most : goal.rows_of-returns-in_err-rows-in-One-clause-most
-rows_of-returns-in_err-rows-in-One-clause-most g t c =
-    most_same _ _ (reads_upto c.args.d.now c.args.w.lo c.args.w.hi (formula_view c.args.f.now)) (reads_upto c.args.d.now c.args.w.lo c.args.w.hi (formula_view c.in-One.part.now)) (ap (reads_upto c.args.d.now c.args.w.lo c.args.w.hi) (sym c.in-One.ensures) ∙ changed_reads (domain_size c.args.d.now) (c.args.w.hi + 1 - c.args.w.lo) c.in-One.change (formula_view c.in-One.part.now)) c.in_err-rows-in-One.ensures.most
+pub rows_of-returns-in_err-made-in-One-clause-reads : goal.rows_of-returns-in_err-made-in-One-clause-reads
+rows_of-returns-in_err-made-in-One-clause-reads g t c = record {
+  least = c.in_ok-rows-in-One.ensures.reads.least;
+  most = most_same _ _ (reads_upto c.args.d.now c.args.w.lo c.args.w.hi (formula_view c.args.f.now)) (reads_upto c.args.d.now c.args.w.lo c.args.w.hi (formula_view c.in-One.part.now)) (ap (reads_upto c.args.d.now c.args.w.lo c.args.w.hi) (sym c.in-One.ensures) ∙ changed_reads (domain_size c.args.d.now) (c.args.w.hi + 1 - c.args.w.lo) c.in-One.change (formula_view c.in-One.part.now)) c.in_ok-rows-in-One.ensures.reads.most;
+}
 
-pub rows_of-returns-in_err-made-in-One-clause-least : goal.rows_of-returns-in_err-made-in-One-clause-least
-rows_of-returns-in_err-made-in-One-clause-least g t c = c.in_ok-rows-in-One.ensures.least
-
-pub rows_of-returns-in_err-made-in-One-clause-most : goal.rows_of-returns-in_err-made-in-One-clause-most
-rows_of-returns-in_err-made-in-One-clause-most g t c =
-    most_same _ _ (reads_upto c.args.d.now c.args.w.lo c.args.w.hi (formula_view c.args.f.now)) (reads_upto c.args.d.now c.args.w.lo c.args.w.hi (formula_view c.in-One.part.now)) (ap (reads_upto c.args.d.now c.args.w.lo c.args.w.hi) (sym c.in-One.ensures) ∙ changed_reads (domain_size c.args.d.now) (c.args.w.hi + 1 - c.args.w.lo) c.in-One.change (formula_view c.in-One.part.now)) c.in_ok-rows-in-One.ensures.most
-
-pub rows_of-returns-in_ok-made-in-One-clause-least : goal.rows_of-returns-in_ok-made-in-One-clause-least
-rows_of-returns-in_ok-made-in-One-clause-least g t c = c.in_ok-rows-in-One.ensures.least
-
-pub rows_of-returns-in_ok-made-in-One-clause-most : goal.rows_of-returns-in_ok-made-in-One-clause-most
-rows_of-returns-in_ok-made-in-One-clause-most g t c =
-    most_same _ _ (reads_upto c.args.d.now c.args.w.lo c.args.w.hi (formula_view c.args.f.now)) (reads_upto c.args.d.now c.args.w.lo c.args.w.hi (formula_view c.in-One.part.now)) (ap (reads_upto c.args.d.now c.args.w.lo c.args.w.hi) (sym c.in-One.ensures) ∙ changed_reads (domain_size c.args.d.now) (c.args.w.hi + 1 - c.args.w.lo) c.in-One.change (formula_view c.in-One.part.now)) c.in_ok-rows-in-One.ensures.most
+pub rows_of-returns-in_ok-made-in-One-clause-reads : goal.rows_of-returns-in_ok-made-in-One-clause-reads
+rows_of-returns-in_ok-made-in-One-clause-reads g t c = record {
+  least = c.in_ok-rows-in-One.ensures.reads.least;
+  most = most_same _ _ (reads_upto c.args.d.now c.args.w.lo c.args.w.hi (formula_view c.args.f.now)) (reads_upto c.args.d.now c.args.w.lo c.args.w.hi (formula_view c.in-One.part.now)) (ap (reads_upto c.args.d.now c.args.w.lo c.args.w.hi) (sym c.in-One.ensures) ∙ changed_reads (domain_size c.args.d.now) (c.args.w.hi + 1 - c.args.w.lo) c.in-One.change (formula_view c.in-One.part.now)) c.in_ok-rows-in-One.ensures.reads.most;
+}
 
 pub rows_of-rows_of_pair-requires : goal.rows_of-rows_of_pair-requires
 rows_of-rows_of_pair-requires g t c κs lives =
@@ -137,21 +134,19 @@ rows_of-returns-then-needs_right-clause-rows g t c =
     (ordered_rows g.S.TickSet.member (g.I.Interpreter.interpretation c.args.source.now) c.args.d.now c.args.w.lo c.args.w.hi c.args.env.now c.in-Two.pairing (formula_view c.in-Two.left.now) (formula_view c.in-Two.right.now) c.in_ok-led-in-Two.led
     (subst (λ (z : ResolvedTree). AreRowsOf g.S.TickSet.member (g.I.Interpreter.interpretation c.args.source.now) c.args.d.now c.args.w.lo c.args.w.hi z c.args.env.now c.in_ok-led-in-Two.led) c.ordered-pair.ensures.tree c.in_ok-led-in-Two.ensures.rows))
 
-pub rows_of-returns-in_err-led-in-Two-clause-least : goal.rows_of-returns-in_err-led-in-Two-clause-least
-rows_of-returns-in_err-led-in-Two-clause-least g t c = c.in_err-led-in-Two.ensures.least
+pub rows_of-returns-in_err-led-in-Two-clause-reads : goal.rows_of-returns-in_err-led-in-Two-clause-reads
+rows_of-returns-in_err-led-in-Two-clause-reads g t c = record {
+  least = c.in_err-led-in-Two.ensures.reads.least;
+  most = (most_same _ _ (reads_upto c.args.d.now c.args.w.lo c.args.w.hi (formula_view c.args.f.now)) (reads_upto c.args.d.now c.args.w.lo c.args.w.hi (pair_view c.ordered-pair.result))
+      (ap (reads_upto c.args.d.now c.args.w.lo c.args.w.hi) (sym c.in-Two.ensures) ∙ sym (ordered_reads (domain_size c.args.d.now) (c.args.w.hi + 1 - c.args.w.lo) c.in-Two.pairing (formula_view c.in-Two.left.now) (formula_view c.in-Two.right.now)) ∙ sym (ap (reads_upto c.args.d.now c.args.w.lo c.args.w.hi) c.ordered-pair.ensures.tree)) c.in_err-led-in-Two.ensures.reads.most);
+}
 
-pub rows_of-returns-in_err-led-in-Two-clause-most : goal.rows_of-returns-in_err-led-in-Two-clause-most
-rows_of-returns-in_err-led-in-Two-clause-most g t c =
-    most_same _ _ (reads_upto c.args.d.now c.args.w.lo c.args.w.hi (formula_view c.args.f.now)) (reads_upto c.args.d.now c.args.w.lo c.args.w.hi (pair_view c.ordered-pair.result))
-    (ap (reads_upto c.args.d.now c.args.w.lo c.args.w.hi) (sym c.in-Two.ensures) ∙ sym (ordered_reads (domain_size c.args.d.now) (c.args.w.hi + 1 - c.args.w.lo) c.in-Two.pairing (formula_view c.in-Two.left.now) (formula_view c.in-Two.right.now)) ∙ sym (ap (reads_upto c.args.d.now c.args.w.lo c.args.w.hi) c.ordered-pair.ensures.tree)) c.in_err-led-in-Two.ensures.most
-
-pub rows_of-returns-then-needs_right-clause-least : goal.rows_of-returns-then-needs_right-clause-least
-rows_of-returns-then-needs_right-clause-least g t c = c.in_ok-led-in-Two.ensures.least
-
-pub rows_of-returns-then-needs_right-clause-most : goal.rows_of-returns-then-needs_right-clause-most
-rows_of-returns-then-needs_right-clause-most g t c =
-    most_same _ _ (reads_upto c.args.d.now c.args.w.lo c.args.w.hi (formula_view c.args.f.now)) (reads_upto c.args.d.now c.args.w.lo c.args.w.hi (pair_view c.ordered-pair.result))
-    (ap (reads_upto c.args.d.now c.args.w.lo c.args.w.hi) (sym c.in-Two.ensures) ∙ sym (ordered_reads (domain_size c.args.d.now) (c.args.w.hi + 1 - c.args.w.lo) c.in-Two.pairing (formula_view c.in-Two.left.now) (formula_view c.in-Two.right.now)) ∙ sym (ap (reads_upto c.args.d.now c.args.w.lo c.args.w.hi) c.ordered-pair.ensures.tree)) c.in_ok-led-in-Two.ensures.most
+pub rows_of-returns-then-needs_right-clause-reads : goal.rows_of-returns-then-needs_right-clause-reads
+rows_of-returns-then-needs_right-clause-reads g t c = record {
+  least = c.in_ok-led-in-Two.ensures.reads.least;
+  most = (most_same _ _ (reads_upto c.args.d.now c.args.w.lo c.args.w.hi (formula_view c.args.f.now)) (reads_upto c.args.d.now c.args.w.lo c.args.w.hi (pair_view c.ordered-pair.result))
+      (ap (reads_upto c.args.d.now c.args.w.lo c.args.w.hi) (sym c.in-Two.ensures) ∙ sym (ordered_reads (domain_size c.args.d.now) (c.args.w.hi + 1 - c.args.w.lo) c.in-Two.pairing (formula_view c.in-Two.left.now) (formula_view c.in-Two.right.now)) ∙ sym (ap (reads_upto c.args.d.now c.args.w.lo c.args.w.hi) c.ordered-pair.ensures.tree)) c.in_ok-led-in-Two.ensures.reads.most);
+}
 
 pub rows_of-rows_of-requires-in-Two : goal.rows_of-rows_of-requires-in-Two
 rows_of-rows_of-requires-in-Two g t c κs lives =
@@ -186,33 +181,29 @@ rows_of-returns-in_ok-made-in-Two-clause-rows g t c =
     (two_rows g.S.TickSet.member (g.I.Interpreter.interpretation c.args.source.now) c.args.d.now c.args.w.lo c.args.w.hi c.args.env.now (formula_view c.in-Two.left.now) c.in_ok-left-in-Two.left c.in_ok-left-in-Two.ensures.rows c.in-Two.pairing (formula_view c.in-Two.right.now) c.in_ok-right-in-Two.right c.in_ok-made-in-Two.made c.in_ok-right-in-Two.ensures.rows
     c.in_ok-made-in-Two.ensures.ticks c.in_ok-made-in-Two.ensures.vars c.in_ok-made-in-Two.ensures.frame)
 
-pub rows_of-returns-in_err-left-in-Two-clause-least : goal.rows_of-returns-in_err-left-in-Two-clause-least
-rows_of-returns-in_err-left-in-Two-clause-least g t c = c.in_err-left-in-Two.ensures.least
+pub rows_of-returns-in_err-left-in-Two-clause-reads : goal.rows_of-returns-in_err-left-in-Two-clause-reads
+rows_of-returns-in_err-left-in-Two-clause-reads g t c = record {
+  least = c.in_err-left-in-Two.ensures.reads.least;
+  most = most_first _ _ (reads_upto c.args.d.now c.args.w.lo c.args.w.hi (formula_view c.args.f.now)) (reads_upto c.args.d.now c.args.w.lo c.args.w.hi (formula_view c.in-Two.left.now)) (reads_upto c.args.d.now c.args.w.lo c.args.w.hi (formula_view c.in-Two.right.now)) (ap (reads_upto c.args.d.now c.args.w.lo c.args.w.hi) (sym c.in-Two.ensures) ∙ paired_reads (domain_size c.args.d.now) (c.args.w.hi + 1 - c.args.w.lo) c.in-Two.pairing (formula_view c.in-Two.left.now) (formula_view c.in-Two.right.now)) c.in_err-left-in-Two.ensures.reads.most;
+}
 
-pub rows_of-returns-in_err-left-in-Two-clause-most : goal.rows_of-returns-in_err-left-in-Two-clause-most
-rows_of-returns-in_err-left-in-Two-clause-most g t c =
-    most_first _ _ (reads_upto c.args.d.now c.args.w.lo c.args.w.hi (formula_view c.args.f.now)) (reads_upto c.args.d.now c.args.w.lo c.args.w.hi (formula_view c.in-Two.left.now)) (reads_upto c.args.d.now c.args.w.lo c.args.w.hi (formula_view c.in-Two.right.now)) (ap (reads_upto c.args.d.now c.args.w.lo c.args.w.hi) (sym c.in-Two.ensures) ∙ paired_reads (domain_size c.args.d.now) (c.args.w.hi + 1 - c.args.w.lo) c.in-Two.pairing (formula_view c.in-Two.left.now) (formula_view c.in-Two.right.now)) c.in_err-left-in-Two.ensures.most
+pub rows_of-returns-in_err-right-in-Two-clause-reads : goal.rows_of-returns-in_err-right-in-Two-clause-reads
+rows_of-returns-in_err-right-in-Two-clause-reads g t c = record {
+  least = at_most_in_turn _ _ _ c.in_ok-left-in-Two.ensures.reads.least c.in_err-right-in-Two.ensures.reads.least;
+  most = most_both _ _ _ (reads_upto c.args.d.now c.args.w.lo c.args.w.hi (formula_view c.args.f.now)) (reads_upto c.args.d.now c.args.w.lo c.args.w.hi (formula_view c.in-Two.left.now)) (reads_upto c.args.d.now c.args.w.lo c.args.w.hi (formula_view c.in-Two.right.now)) (ap (reads_upto c.args.d.now c.args.w.lo c.args.w.hi) (sym c.in-Two.ensures) ∙ paired_reads (domain_size c.args.d.now) (c.args.w.hi + 1 - c.args.w.lo) c.in-Two.pairing (formula_view c.in-Two.left.now) (formula_view c.in-Two.right.now)) c.in_ok-left-in-Two.ensures.reads.most c.in_err-right-in-Two.ensures.reads.most;
+}
 
-pub rows_of-returns-in_err-right-in-Two-clause-least : goal.rows_of-returns-in_err-right-in-Two-clause-least
-rows_of-returns-in_err-right-in-Two-clause-least g t c = at_most_in_turn _ _ _ c.in_ok-left-in-Two.ensures.least c.in_err-right-in-Two.ensures.least
+pub rows_of-returns-in_err-made-in-Two-clause-reads : goal.rows_of-returns-in_err-made-in-Two-clause-reads
+rows_of-returns-in_err-made-in-Two-clause-reads g t c = record {
+  least = at_most_in_turn _ _ _ c.in_ok-left-in-Two.ensures.reads.least c.in_ok-right-in-Two.ensures.reads.least;
+  most = most_both _ _ _ (reads_upto c.args.d.now c.args.w.lo c.args.w.hi (formula_view c.args.f.now)) (reads_upto c.args.d.now c.args.w.lo c.args.w.hi (formula_view c.in-Two.left.now)) (reads_upto c.args.d.now c.args.w.lo c.args.w.hi (formula_view c.in-Two.right.now)) (ap (reads_upto c.args.d.now c.args.w.lo c.args.w.hi) (sym c.in-Two.ensures) ∙ paired_reads (domain_size c.args.d.now) (c.args.w.hi + 1 - c.args.w.lo) c.in-Two.pairing (formula_view c.in-Two.left.now) (formula_view c.in-Two.right.now)) c.in_ok-left-in-Two.ensures.reads.most c.in_ok-right-in-Two.ensures.reads.most;
+}
 
-pub rows_of-returns-in_err-right-in-Two-clause-most : goal.rows_of-returns-in_err-right-in-Two-clause-most
-rows_of-returns-in_err-right-in-Two-clause-most g t c =
-    most_both _ _ _ (reads_upto c.args.d.now c.args.w.lo c.args.w.hi (formula_view c.args.f.now)) (reads_upto c.args.d.now c.args.w.lo c.args.w.hi (formula_view c.in-Two.left.now)) (reads_upto c.args.d.now c.args.w.lo c.args.w.hi (formula_view c.in-Two.right.now)) (ap (reads_upto c.args.d.now c.args.w.lo c.args.w.hi) (sym c.in-Two.ensures) ∙ paired_reads (domain_size c.args.d.now) (c.args.w.hi + 1 - c.args.w.lo) c.in-Two.pairing (formula_view c.in-Two.left.now) (formula_view c.in-Two.right.now)) c.in_ok-left-in-Two.ensures.most c.in_err-right-in-Two.ensures.most
-
-pub rows_of-returns-in_err-made-in-Two-clause-least : goal.rows_of-returns-in_err-made-in-Two-clause-least
-rows_of-returns-in_err-made-in-Two-clause-least g t c = at_most_in_turn _ _ _ c.in_ok-left-in-Two.ensures.least c.in_ok-right-in-Two.ensures.least
-
-pub rows_of-returns-in_err-made-in-Two-clause-most : goal.rows_of-returns-in_err-made-in-Two-clause-most
-rows_of-returns-in_err-made-in-Two-clause-most g t c =
-    most_both _ _ _ (reads_upto c.args.d.now c.args.w.lo c.args.w.hi (formula_view c.args.f.now)) (reads_upto c.args.d.now c.args.w.lo c.args.w.hi (formula_view c.in-Two.left.now)) (reads_upto c.args.d.now c.args.w.lo c.args.w.hi (formula_view c.in-Two.right.now)) (ap (reads_upto c.args.d.now c.args.w.lo c.args.w.hi) (sym c.in-Two.ensures) ∙ paired_reads (domain_size c.args.d.now) (c.args.w.hi + 1 - c.args.w.lo) c.in-Two.pairing (formula_view c.in-Two.left.now) (formula_view c.in-Two.right.now)) c.in_ok-left-in-Two.ensures.most c.in_ok-right-in-Two.ensures.most
-
-pub rows_of-returns-in_ok-made-in-Two-clause-least : goal.rows_of-returns-in_ok-made-in-Two-clause-least
-rows_of-returns-in_ok-made-in-Two-clause-least g t c = at_most_in_turn _ _ _ c.in_ok-left-in-Two.ensures.least c.in_ok-right-in-Two.ensures.least
-
-pub rows_of-returns-in_ok-made-in-Two-clause-most : goal.rows_of-returns-in_ok-made-in-Two-clause-most
-rows_of-returns-in_ok-made-in-Two-clause-most g t c =
-    most_both _ _ _ (reads_upto c.args.d.now c.args.w.lo c.args.w.hi (formula_view c.args.f.now)) (reads_upto c.args.d.now c.args.w.lo c.args.w.hi (formula_view c.in-Two.left.now)) (reads_upto c.args.d.now c.args.w.lo c.args.w.hi (formula_view c.in-Two.right.now)) (ap (reads_upto c.args.d.now c.args.w.lo c.args.w.hi) (sym c.in-Two.ensures) ∙ paired_reads (domain_size c.args.d.now) (c.args.w.hi + 1 - c.args.w.lo) c.in-Two.pairing (formula_view c.in-Two.left.now) (formula_view c.in-Two.right.now)) c.in_ok-left-in-Two.ensures.most c.in_ok-right-in-Two.ensures.most
+pub rows_of-returns-in_ok-made-in-Two-clause-reads : goal.rows_of-returns-in_ok-made-in-Two-clause-reads
+rows_of-returns-in_ok-made-in-Two-clause-reads g t c = record {
+  least = at_most_in_turn _ _ _ c.in_ok-left-in-Two.ensures.reads.least c.in_ok-right-in-Two.ensures.reads.least;
+  most = most_both _ _ _ (reads_upto c.args.d.now c.args.w.lo c.args.w.hi (formula_view c.args.f.now)) (reads_upto c.args.d.now c.args.w.lo c.args.w.hi (formula_view c.in-Two.left.now)) (reads_upto c.args.d.now c.args.w.lo c.args.w.hi (formula_view c.in-Two.right.now)) (ap (reads_upto c.args.d.now c.args.w.lo c.args.w.hi) (sym c.in-Two.ensures) ∙ paired_reads (domain_size c.args.d.now) (c.args.w.hi + 1 - c.args.w.lo) c.in-Two.pairing (formula_view c.in-Two.left.now) (formula_view c.in-Two.right.now)) c.in_ok-left-in-Two.ensures.reads.most c.in_ok-right-in-Two.ensures.reads.most;
+}
 
 pub rows_of-rows_of_assignment-requires : goal.rows_of-rows_of_assignment-requires
 rows_of-rows_of_assignment-requires g t c κs lives =
@@ -226,19 +217,17 @@ pub rows_of-returns-in_ok-made-in-Assign-clause-rows : goal.rows_of-returns-in_o
 rows_of-returns-in_ok-made-in-Assign-clause-rows g t c =
     subst (λ (z : ResolvedTree). AreRowsOf g.S.TickSet.member (g.I.Interpreter.interpretation c.args.source.now) c.args.d.now c.args.w.lo c.args.w.hi z c.args.env.now c.in_ok-made-in-Assign.made) c.in-Assign.ensures c.in_ok-made-in-Assign.ensures.rows
 
-pub rows_of-returns-in_err-made-in-Assign-clause-least : goal.rows_of-returns-in_err-made-in-Assign-clause-least
-rows_of-returns-in_err-made-in-Assign-clause-least g t c = c.in_err-made-in-Assign.ensures.least
+pub rows_of-returns-in_err-made-in-Assign-clause-reads : goal.rows_of-returns-in_err-made-in-Assign-clause-reads
+rows_of-returns-in_err-made-in-Assign-clause-reads g t c = record {
+  least = c.in_err-made-in-Assign.ensures.reads.least;
+  most = subst (λ (z : ResolvedTree). c.rows_of_assignment.new.reads ≤ c.args.reads.now + reads_upto c.args.d.now c.args.w.lo c.args.w.hi z) c.in-Assign.ensures c.in_err-made-in-Assign.ensures.reads.most;
+}
 
-pub rows_of-returns-in_err-made-in-Assign-clause-most : goal.rows_of-returns-in_err-made-in-Assign-clause-most
-rows_of-returns-in_err-made-in-Assign-clause-most g t c =
-    subst (λ (z : ResolvedTree). c.rows_of_assignment.new.reads ≤ c.args.reads.now + reads_upto c.args.d.now c.args.w.lo c.args.w.hi z) c.in-Assign.ensures c.in_err-made-in-Assign.ensures.most
-
-pub rows_of-returns-in_ok-made-in-Assign-clause-least : goal.rows_of-returns-in_ok-made-in-Assign-clause-least
-rows_of-returns-in_ok-made-in-Assign-clause-least g t c = c.in_ok-made-in-Assign.ensures.least
-
-pub rows_of-returns-in_ok-made-in-Assign-clause-most : goal.rows_of-returns-in_ok-made-in-Assign-clause-most
-rows_of-returns-in_ok-made-in-Assign-clause-most g t c =
-    subst (λ (z : ResolvedTree). c.rows_of_assignment.new.reads ≤ c.args.reads.now + reads_upto c.args.d.now c.args.w.lo c.args.w.hi z) c.in-Assign.ensures c.in_ok-made-in-Assign.ensures.most
+pub rows_of-returns-in_ok-made-in-Assign-clause-reads : goal.rows_of-returns-in_ok-made-in-Assign-clause-reads
+rows_of-returns-in_ok-made-in-Assign-clause-reads g t c = record {
+  least = c.in_ok-made-in-Assign.ensures.reads.least;
+  most = subst (λ (z : ResolvedTree). c.rows_of_assignment.new.reads ≤ c.args.reads.now + reads_upto c.args.d.now c.args.w.lo c.args.w.hi z) c.in-Assign.ensures c.in_ok-made-in-Assign.ensures.reads.most;
+}
 
 pub rows_of-unreachable-requires : goal.rows_of-unreachable-requires
 rows_of-unreachable-requires g t c =
@@ -314,33 +303,29 @@ rows_of_pair-returns-clause-rows g t c =
     c.in_ok-right.ensures.rows c.rows_stand_in_order.ensures.none
     c.in_ok-made.ensures.ticks c.in_ok-made.ensures.vars c.in_ok-made.ensures.frame
 
-pub rows_of_pair-returns-in_err-right-clause-least : goal.rows_of_pair-returns-in_err-right-clause-least
-rows_of_pair-returns-in_err-right-clause-least g t c = c.in_err-right.ensures.least
+pub rows_of_pair-returns-in_err-right-clause-reads : goal.rows_of_pair-returns-in_err-right-clause-reads
+rows_of_pair-returns-in_err-right-clause-reads g t c = record {
+  least = c.in_err-right.ensures.reads.least;
+  most = most_second _ _ (reads_upto c.args.d.now c.args.w.lo c.args.w.hi (pair_view c.args.pair.now)) (reads_upto c.args.d.now c.args.w.lo c.args.w.hi (formula_view c.args.pair.now.left.now)) (reads_upto c.args.d.now c.args.w.lo c.args.w.hi (formula_view c.args.pair.now.right.now)) (paired_reads (domain_size c.args.d.now) (c.args.w.hi + 1 - c.args.w.lo) c.args.pair.now.pairing (formula_view c.args.pair.now.left.now) (formula_view c.args.pair.now.right.now)) c.in_err-right.ensures.reads.most;
+}
 
-pub rows_of_pair-returns-in_err-right-clause-most : goal.rows_of_pair-returns-in_err-right-clause-most
-rows_of_pair-returns-in_err-right-clause-most g t c =
-    most_second _ _ (reads_upto c.args.d.now c.args.w.lo c.args.w.hi (pair_view c.args.pair.now)) (reads_upto c.args.d.now c.args.w.lo c.args.w.hi (formula_view c.args.pair.now.left.now)) (reads_upto c.args.d.now c.args.w.lo c.args.w.hi (formula_view c.args.pair.now.right.now)) (paired_reads (domain_size c.args.d.now) (c.args.w.hi + 1 - c.args.w.lo) c.args.pair.now.pairing (formula_view c.args.pair.now.left.now) (formula_view c.args.pair.now.right.now)) c.in_err-right.ensures.most
+pub rows_of_pair-returns-in_err-left-clause-reads : goal.rows_of_pair-returns-in_err-left-clause-reads
+rows_of_pair-returns-in_err-left-clause-reads g t c = record {
+  least = at_most_in_turn _ _ _ c.in_ok-right.ensures.reads.least c.in_err-left.ensures.reads.least;
+  most = most_turned _ _ _ (reads_upto c.args.d.now c.args.w.lo c.args.w.hi (pair_view c.args.pair.now)) (reads_upto c.args.d.now c.args.w.lo c.args.w.hi (formula_view c.args.pair.now.left.now)) (reads_upto c.args.d.now c.args.w.lo c.args.w.hi (formula_view c.args.pair.now.right.now)) (paired_reads (domain_size c.args.d.now) (c.args.w.hi + 1 - c.args.w.lo) c.args.pair.now.pairing (formula_view c.args.pair.now.left.now) (formula_view c.args.pair.now.right.now)) c.in_ok-right.ensures.reads.most (most_over c.args.w.lo c.args.w.hi (formula_view c.args.pair.now.left.now) _ _ (ap (λ (z : Frame). z.domains) c.in_ok-right.ensures.rows.frame) _ _ c.in_err-left.ensures.reads.most);
+}
 
-pub rows_of_pair-returns-in_err-left-clause-least : goal.rows_of_pair-returns-in_err-left-clause-least
-rows_of_pair-returns-in_err-left-clause-least g t c = at_most_in_turn _ _ _ c.in_ok-right.ensures.least c.in_err-left.ensures.least
+pub rows_of_pair-returns-in_err-made-clause-reads : goal.rows_of_pair-returns-in_err-made-clause-reads
+rows_of_pair-returns-in_err-made-clause-reads g t c = record {
+  least = at_most_in_turn _ _ _ c.in_ok-right.ensures.reads.least c.in_ok-left.ensures.reads.least;
+  most = most_turned _ _ _ (reads_upto c.args.d.now c.args.w.lo c.args.w.hi (pair_view c.args.pair.now)) (reads_upto c.args.d.now c.args.w.lo c.args.w.hi (formula_view c.args.pair.now.left.now)) (reads_upto c.args.d.now c.args.w.lo c.args.w.hi (formula_view c.args.pair.now.right.now)) (paired_reads (domain_size c.args.d.now) (c.args.w.hi + 1 - c.args.w.lo) c.args.pair.now.pairing (formula_view c.args.pair.now.left.now) (formula_view c.args.pair.now.right.now)) c.in_ok-right.ensures.reads.most (most_over c.args.w.lo c.args.w.hi (formula_view c.args.pair.now.left.now) _ _ (ap (λ (z : Frame). z.domains) c.in_ok-right.ensures.rows.frame) _ _ c.in_ok-left.ensures.reads.most);
+}
 
-pub rows_of_pair-returns-in_err-left-clause-most : goal.rows_of_pair-returns-in_err-left-clause-most
-rows_of_pair-returns-in_err-left-clause-most g t c =
-    most_turned _ _ _ (reads_upto c.args.d.now c.args.w.lo c.args.w.hi (pair_view c.args.pair.now)) (reads_upto c.args.d.now c.args.w.lo c.args.w.hi (formula_view c.args.pair.now.left.now)) (reads_upto c.args.d.now c.args.w.lo c.args.w.hi (formula_view c.args.pair.now.right.now)) (paired_reads (domain_size c.args.d.now) (c.args.w.hi + 1 - c.args.w.lo) c.args.pair.now.pairing (formula_view c.args.pair.now.left.now) (formula_view c.args.pair.now.right.now)) c.in_ok-right.ensures.most (most_over c.args.w.lo c.args.w.hi (formula_view c.args.pair.now.left.now) _ _ (ap (λ (z : Frame). z.domains) c.in_ok-right.ensures.rows.frame) _ _ c.in_err-left.ensures.most)
-
-pub rows_of_pair-returns-in_err-made-clause-least : goal.rows_of_pair-returns-in_err-made-clause-least
-rows_of_pair-returns-in_err-made-clause-least g t c = at_most_in_turn _ _ _ c.in_ok-right.ensures.least c.in_ok-left.ensures.least
-
-pub rows_of_pair-returns-in_err-made-clause-most : goal.rows_of_pair-returns-in_err-made-clause-most
-rows_of_pair-returns-in_err-made-clause-most g t c =
-    most_turned _ _ _ (reads_upto c.args.d.now c.args.w.lo c.args.w.hi (pair_view c.args.pair.now)) (reads_upto c.args.d.now c.args.w.lo c.args.w.hi (formula_view c.args.pair.now.left.now)) (reads_upto c.args.d.now c.args.w.lo c.args.w.hi (formula_view c.args.pair.now.right.now)) (paired_reads (domain_size c.args.d.now) (c.args.w.hi + 1 - c.args.w.lo) c.args.pair.now.pairing (formula_view c.args.pair.now.left.now) (formula_view c.args.pair.now.right.now)) c.in_ok-right.ensures.most (most_over c.args.w.lo c.args.w.hi (formula_view c.args.pair.now.left.now) _ _ (ap (λ (z : Frame). z.domains) c.in_ok-right.ensures.rows.frame) _ _ c.in_ok-left.ensures.most)
-
-pub rows_of_pair-returns-clause-least : goal.rows_of_pair-returns-clause-least
-rows_of_pair-returns-clause-least g t c = at_most_in_turn _ _ _ c.in_ok-right.ensures.least c.in_ok-left.ensures.least
-
-pub rows_of_pair-returns-clause-most : goal.rows_of_pair-returns-clause-most
-rows_of_pair-returns-clause-most g t c =
-    most_turned _ _ _ (reads_upto c.args.d.now c.args.w.lo c.args.w.hi (pair_view c.args.pair.now)) (reads_upto c.args.d.now c.args.w.lo c.args.w.hi (formula_view c.args.pair.now.left.now)) (reads_upto c.args.d.now c.args.w.lo c.args.w.hi (formula_view c.args.pair.now.right.now)) (paired_reads (domain_size c.args.d.now) (c.args.w.hi + 1 - c.args.w.lo) c.args.pair.now.pairing (formula_view c.args.pair.now.left.now) (formula_view c.args.pair.now.right.now)) c.in_ok-right.ensures.most (most_over c.args.w.lo c.args.w.hi (formula_view c.args.pair.now.left.now) _ _ (ap (λ (z : Frame). z.domains) c.in_ok-right.ensures.rows.frame) _ _ c.in_ok-left.ensures.most)
+pub rows_of_pair-returns-clause-reads : goal.rows_of_pair-returns-clause-reads
+rows_of_pair-returns-clause-reads g t c = record {
+  least = at_most_in_turn _ _ _ c.in_ok-right.ensures.reads.least c.in_ok-left.ensures.reads.least;
+  most = most_turned _ _ _ (reads_upto c.args.d.now c.args.w.lo c.args.w.hi (pair_view c.args.pair.now)) (reads_upto c.args.d.now c.args.w.lo c.args.w.hi (formula_view c.args.pair.now.left.now)) (reads_upto c.args.d.now c.args.w.lo c.args.w.hi (formula_view c.args.pair.now.right.now)) (paired_reads (domain_size c.args.d.now) (c.args.w.hi + 1 - c.args.w.lo) c.args.pair.now.pairing (formula_view c.args.pair.now.left.now) (formula_view c.args.pair.now.right.now)) c.in_ok-right.ensures.reads.most (most_over c.args.w.lo c.args.w.hi (formula_view c.args.pair.now.left.now) _ _ (ap (λ (z : Frame). z.domains) c.in_ok-right.ensures.rows.frame) _ _ c.in_ok-left.ensures.reads.most);
+}
 
 pub rows_beside-leave_out-requires : goal.rows_beside-leave_out-requires
 rows_beside-leave_out-requires g t c =
@@ -395,48 +380,38 @@ rows_beside-returns-clause-rows g t c =
     subst (λ (ds : List (List ℕ)). AreRowsBeside g.S.TickSet.member (g.I.Interpreter.interpretation c.args.source.now) ds c.args.w.lo c.args.w.hi (formula_view c.args.f.now) c.args.env.now c.args.other.now c.in_ok-made.made) c.domains-d.ensures
     (beside_all g.S.TickSet.member (g.I.Interpreter.interpretation c.args.source.now) c.domains-d.result.now c.args.w.lo c.args.w.hi c.args.env.now (formula_view c.args.f.now) c.args.other.now c.in_ok-made.made c.in_ok-made.ensures.rows)
 
-pub rows_beside-returns-in_err-near-clause-least : goal.rows_beside-returns-in_err-near-clause-least
-rows_beside-returns-in_err-near-clause-least g t c =
-    c.in_err-near.ensures.least
+pub rows_beside-returns-in_err-near-clause-reads : goal.rows_beside-returns-in_err-near-clause-reads
+rows_beside-returns-in_err-near-clause-reads g t c = record {
+  least = c.in_err-near.ensures.reads.least;
+  most = (most_over c.args.w.lo c.args.w.hi (formula_view c.args.f.now) _ _ c.domains-d.ensures _ _
+      (most_fewer _ _ (reads_upto c.in_ok-few.few c.args.w.lo c.args.w.hi (formula_view c.args.f.now)) (reads_upto c.domains-d.result.now c.args.w.lo c.args.w.hi (formula_view c.args.f.now)) (fewer_reads c.fewer_objects_take_fewer_looks.ensures (domain_size c.in_ok-few.few) (domain_size c.domains-d.result.now) c.in_ok-few.ensures.few (c.args.w.hi + 1 - c.args.w.lo) (formula_view c.args.f.now)) c.in_err-near.ensures.reads.most));
+}
 
-pub rows_beside-returns-in_err-near-clause-most : goal.rows_beside-returns-in_err-near-clause-most
-rows_beside-returns-in_err-near-clause-most g t c =
-    most_over c.args.w.lo c.args.w.hi (formula_view c.args.f.now) _ _ c.domains-d.ensures _ _
-    (most_fewer _ _ (reads_upto c.in_ok-few.few c.args.w.lo c.args.w.hi (formula_view c.args.f.now)) (reads_upto c.domains-d.result.now c.args.w.lo c.args.w.hi (formula_view c.args.f.now)) (fewer_reads c.fewer_objects_take_fewer_looks.ensures (domain_size c.in_ok-few.few) (domain_size c.domains-d.result.now) c.in_ok-few.ensures.few (c.args.w.hi + 1 - c.args.w.lo) (formula_view c.args.f.now)) c.in_err-near.ensures.most)
+pub rows_beside-returns-in_err-wide-clause-reads : goal.rows_beside-returns-in_err-wide-clause-reads
+rows_beside-returns-in_err-wide-clause-reads g t c = record {
+  least = c.in_ok-near.ensures.reads.least;
+  most = (most_over c.args.w.lo c.args.w.hi (formula_view c.args.f.now) _ _ c.domains-d.ensures _ _
+      (most_fewer _ _ (reads_upto c.in_ok-few.few c.args.w.lo c.args.w.hi (formula_view c.args.f.now)) (reads_upto c.domains-d.result.now c.args.w.lo c.args.w.hi (formula_view c.args.f.now)) (fewer_reads c.fewer_objects_take_fewer_looks.ensures (domain_size c.in_ok-few.few) (domain_size c.domains-d.result.now) c.in_ok-few.ensures.few (c.args.w.hi + 1 - c.args.w.lo) (formula_view c.args.f.now)) c.in_ok-near.ensures.reads.most));
+}
 
-pub rows_beside-returns-in_err-wide-clause-least : goal.rows_beside-returns-in_err-wide-clause-least
-rows_beside-returns-in_err-wide-clause-least g t c =
-    c.in_ok-near.ensures.least
+pub rows_beside-returns-then-leave_out-clause-reads : goal.rows_beside-returns-then-leave_out-clause-reads
+rows_beside-returns-then-leave_out-clause-reads g t c = record {
+  least = c.in_ok-near.ensures.reads.least;
+  most = (most_over c.args.w.lo c.args.w.hi (formula_view c.args.f.now) _ _ c.domains-d.ensures _ _
+      (most_fewer _ _ (reads_upto c.in_ok-few.few c.args.w.lo c.args.w.hi (formula_view c.args.f.now)) (reads_upto c.domains-d.result.now c.args.w.lo c.args.w.hi (formula_view c.args.f.now)) (fewer_reads c.fewer_objects_take_fewer_looks.ensures (domain_size c.in_ok-few.few) (domain_size c.domains-d.result.now) c.in_ok-few.ensures.few (c.args.w.hi + 1 - c.args.w.lo) (formula_view c.args.f.now)) c.in_ok-near.ensures.reads.most));
+}
 
-pub rows_beside-returns-in_err-wide-clause-most : goal.rows_beside-returns-in_err-wide-clause-most
-rows_beside-returns-in_err-wide-clause-most g t c =
-    most_over c.args.w.lo c.args.w.hi (formula_view c.args.f.now) _ _ c.domains-d.ensures _ _
-    (most_fewer _ _ (reads_upto c.in_ok-few.few c.args.w.lo c.args.w.hi (formula_view c.args.f.now)) (reads_upto c.domains-d.result.now c.args.w.lo c.args.w.hi (formula_view c.args.f.now)) (fewer_reads c.fewer_objects_take_fewer_looks.ensures (domain_size c.in_ok-few.few) (domain_size c.domains-d.result.now) c.in_ok-few.ensures.few (c.args.w.hi + 1 - c.args.w.lo) (formula_view c.args.f.now)) c.in_ok-near.ensures.most)
+pub rows_beside-returns-in_err-made-clause-reads : goal.rows_beside-returns-in_err-made-clause-reads
+rows_beside-returns-in_err-made-clause-reads g t c = record {
+  least = c.in_err-made.ensures.reads.least;
+  most = most_over c.args.w.lo c.args.w.hi (formula_view c.args.f.now) _ _ c.domains-d.ensures _ _ c.in_err-made.ensures.reads.most;
+}
 
-pub rows_beside-returns-then-leave_out-clause-least : goal.rows_beside-returns-then-leave_out-clause-least
-rows_beside-returns-then-leave_out-clause-least g t c =
-    c.in_ok-near.ensures.least
-
-pub rows_beside-returns-then-leave_out-clause-most : goal.rows_beside-returns-then-leave_out-clause-most
-rows_beside-returns-then-leave_out-clause-most g t c =
-    most_over c.args.w.lo c.args.w.hi (formula_view c.args.f.now) _ _ c.domains-d.ensures _ _
-    (most_fewer _ _ (reads_upto c.in_ok-few.few c.args.w.lo c.args.w.hi (formula_view c.args.f.now)) (reads_upto c.domains-d.result.now c.args.w.lo c.args.w.hi (formula_view c.args.f.now)) (fewer_reads c.fewer_objects_take_fewer_looks.ensures (domain_size c.in_ok-few.few) (domain_size c.domains-d.result.now) c.in_ok-few.ensures.few (c.args.w.hi + 1 - c.args.w.lo) (formula_view c.args.f.now)) c.in_ok-near.ensures.most)
-
-pub rows_beside-returns-in_err-made-clause-least : goal.rows_beside-returns-in_err-made-clause-least
-rows_beside-returns-in_err-made-clause-least g t c =
-    c.in_err-made.ensures.least
-
-pub rows_beside-returns-in_err-made-clause-most : goal.rows_beside-returns-in_err-made-clause-most
-rows_beside-returns-in_err-made-clause-most g t c =
-    most_over c.args.w.lo c.args.w.hi (formula_view c.args.f.now) _ _ c.domains-d.ensures _ _ c.in_err-made.ensures.most
-
-pub rows_beside-returns-clause-least : goal.rows_beside-returns-clause-least
-rows_beside-returns-clause-least g t c =
-    c.in_ok-made.ensures.least
-
-pub rows_beside-returns-clause-most : goal.rows_beside-returns-clause-most
-rows_beside-returns-clause-most g t c =
-    most_over c.args.w.lo c.args.w.hi (formula_view c.args.f.now) _ _ c.domains-d.ensures _ _ c.in_ok-made.ensures.most
+pub rows_beside-returns-clause-reads : goal.rows_beside-returns-clause-reads
+rows_beside-returns-clause-reads g t c = record {
+  least = c.in_ok-made.ensures.reads.least;
+  most = most_over c.args.w.lo c.args.w.hi (formula_view c.args.f.now) _ _ c.domains-d.ensures _ _ c.in_ok-made.ensures.reads.most;
+}
 
 pub rows_of_assignment-keys_of-requires-clause-known : goal.rows_of_assignment-keys_of-requires-clause-known
 rows_of_assignment-keys_of-requires-clause-known g t c =
@@ -463,43 +438,39 @@ rows_of_assignment-rows_at_key-requires g t c κs lives =
       (lives.0, (lives.1.0, (lives.1.1.0, (lives.1.1.1, (same_vars, (inside, (c.requires.over, c.requires.can))))))),
     )
 
-pub rows_of_assignment-returns-in_err-rows-clause-least : goal.rows_of_assignment-returns-in_err-rows-clause-least
-rows_of_assignment-returns-in_err-rows-clause-least g t c = at_most_in_turn _ _ _ c.keys.invariant.least c.in_err-rows.ensures.least
+pub rows_of_assignment-returns-in_err-rows-clause-reads : goal.rows_of_assignment-returns-in_err-rows-clause-reads
+rows_of_assignment-returns-in_err-rows-clause-reads g t c = record {
+  least = at_most_in_turn _ _ _ c.keys.invariant.least c.in_err-rows.ensures.reads.least;
+  most = (let same_vars : c.list-term_vars.result.now ≡ term_variables c.args.a.now.term.now = c.list-term_vars.ensures ∙ variables_same (set_has c.free_in_term.result) (λ v. term_has v c.args.a.now.term.now) (λ v l. c.free_in_term.ensures v l) in
+      keys_within c.args.d.now c.args.w.lo c.args.w.hi c.list-term_vars.result.now c.args.a.now.depth c.args.a.now.term.now (formula_view c.args.a.now.body.now) same_vars _ _ (c.keys.key-index + 1) (length c.in_ok-keys.keys)
+      (one_step c.args.reads.now c.keys.reads _ c.keys.key-index (reads_at_key c.args.d.now c.args.w.lo c.args.w.hi c.list-term_vars.result.now (formula_view c.args.a.now.body.now)) c.keys.invariant.most c.in_err-rows.ensures.reads.most)
+      (let l = c.keys-test.true in let e = ap length c.items-key-items.ensures in omega (arith, l, e)) c.in_ok-keys.ensures.count);
+}
 
-pub rows_of_assignment-returns-in_err-rows-clause-most : goal.rows_of_assignment-returns-in_err-rows-clause-most
-rows_of_assignment-returns-in_err-rows-clause-most g t c =
-    let same_vars : c.list-term_vars.result.now ≡ term_variables c.args.a.now.term.now = c.list-term_vars.ensures ∙ variables_same (set_has c.free_in_term.result) (λ v. term_has v c.args.a.now.term.now) (λ v l. c.free_in_term.ensures v l) in
-    keys_within c.args.d.now c.args.w.lo c.args.w.hi c.list-term_vars.result.now c.args.a.now.depth c.args.a.now.term.now (formula_view c.args.a.now.body.now) same_vars _ _ (c.keys.key-index + 1) (length c.in_ok-keys.keys)
-    (one_step c.args.reads.now c.keys.reads _ c.keys.key-index (reads_at_key c.args.d.now c.args.w.lo c.args.w.hi c.list-term_vars.result.now (formula_view c.args.a.now.body.now)) c.keys.invariant.most c.in_err-rows.ensures.most)
-    (let l = c.keys-test.true in let e = ap length c.items-key-items.ensures in omega (arith, l, e)) c.in_ok-keys.ensures.count
+pub rows_of_assignment-returns-in_err-push_back-clause-reads : goal.rows_of_assignment-returns-in_err-push_back-clause-reads
+rows_of_assignment-returns-in_err-push_back-clause-reads g t c = record {
+  least = at_most_in_turn _ _ _ c.keys.invariant.least c.in_ok-rows.ensures.reads.least;
+  most = (let same_vars : c.list-term_vars.result.now ≡ term_variables c.args.a.now.term.now = c.list-term_vars.ensures ∙ variables_same (set_has c.free_in_term.result) (λ v. term_has v c.args.a.now.term.now) (λ v l. c.free_in_term.ensures v l) in
+      keys_within c.args.d.now c.args.w.lo c.args.w.hi c.list-term_vars.result.now c.args.a.now.depth c.args.a.now.term.now (formula_view c.args.a.now.body.now) same_vars _ _ (c.keys.key-index + 1) (length c.in_ok-keys.keys)
+      (one_step c.args.reads.now c.keys.reads _ c.keys.key-index (reads_at_key c.args.d.now c.args.w.lo c.args.w.hi c.list-term_vars.result.now (formula_view c.args.a.now.body.now)) c.keys.invariant.most c.in_ok-rows.ensures.reads.most)
+      (let l = c.keys-test.true in let e = ap length c.items-key-items.ensures in omega (arith, l, e)) c.in_ok-keys.ensures.count);
+}
 
-pub rows_of_assignment-returns-in_err-push_back-clause-least : goal.rows_of_assignment-returns-in_err-push_back-clause-least
-rows_of_assignment-returns-in_err-push_back-clause-least g t c = at_most_in_turn _ _ _ c.keys.invariant.least c.in_ok-rows.ensures.least
+pub rows_of_assignment-returns-in_err-made-clause-reads : goal.rows_of_assignment-returns-in_err-made-clause-reads
+rows_of_assignment-returns-in_err-made-clause-reads g t c = record {
+  least = c.keys.invariant.least;
+  most = (let same_vars : c.list-term_vars.result.now ≡ term_variables c.args.a.now.term.now = c.list-term_vars.ensures ∙ variables_same (set_has c.free_in_term.result) (λ v. term_has v c.args.a.now.term.now) (λ v l. c.free_in_term.ensures v l) in
+      keys_within c.args.d.now c.args.w.lo c.args.w.hi c.list-term_vars.result.now c.args.a.now.depth c.args.a.now.term.now (formula_view c.args.a.now.body.now) same_vars _ _ c.keys.key-index (length c.in_ok-keys.keys) c.keys.invariant.most
+      (let l : c.keys.key-index ≤ length c.items-key-items.result.now = c.keys.auto.key-index-end in let e = ap length c.items-key-items.ensures in omega (arith, l, e)) c.in_ok-keys.ensures.count);
+}
 
-pub rows_of_assignment-returns-in_err-push_back-clause-most : goal.rows_of_assignment-returns-in_err-push_back-clause-most
-rows_of_assignment-returns-in_err-push_back-clause-most g t c =
-    let same_vars : c.list-term_vars.result.now ≡ term_variables c.args.a.now.term.now = c.list-term_vars.ensures ∙ variables_same (set_has c.free_in_term.result) (λ v. term_has v c.args.a.now.term.now) (λ v l. c.free_in_term.ensures v l) in
-    keys_within c.args.d.now c.args.w.lo c.args.w.hi c.list-term_vars.result.now c.args.a.now.depth c.args.a.now.term.now (formula_view c.args.a.now.body.now) same_vars _ _ (c.keys.key-index + 1) (length c.in_ok-keys.keys)
-    (one_step c.args.reads.now c.keys.reads _ c.keys.key-index (reads_at_key c.args.d.now c.args.w.lo c.args.w.hi c.list-term_vars.result.now (formula_view c.args.a.now.body.now)) c.keys.invariant.most c.in_ok-rows.ensures.most)
-    (let l = c.keys-test.true in let e = ap length c.items-key-items.ensures in omega (arith, l, e)) c.in_ok-keys.ensures.count
-
-pub rows_of_assignment-returns-in_err-made-clause-least : goal.rows_of_assignment-returns-in_err-made-clause-least
-rows_of_assignment-returns-in_err-made-clause-least g t c = c.keys.invariant.least
-
-pub rows_of_assignment-returns-in_err-made-clause-most : goal.rows_of_assignment-returns-in_err-made-clause-most
-rows_of_assignment-returns-in_err-made-clause-most g t c =
-    let same_vars : c.list-term_vars.result.now ≡ term_variables c.args.a.now.term.now = c.list-term_vars.ensures ∙ variables_same (set_has c.free_in_term.result) (λ v. term_has v c.args.a.now.term.now) (λ v l. c.free_in_term.ensures v l) in
-    keys_within c.args.d.now c.args.w.lo c.args.w.hi c.list-term_vars.result.now c.args.a.now.depth c.args.a.now.term.now (formula_view c.args.a.now.body.now) same_vars _ _ c.keys.key-index (length c.in_ok-keys.keys) c.keys.invariant.most
-    (let l : c.keys.key-index ≤ length c.items-key-items.result.now = c.keys.auto.key-index-end in let e = ap length c.items-key-items.ensures in omega (arith, l, e)) c.in_ok-keys.ensures.count
-
-pub rows_of_assignment-returns-clause-least : goal.rows_of_assignment-returns-clause-least
-rows_of_assignment-returns-clause-least g t c = c.keys.invariant.least
-
-pub rows_of_assignment-returns-clause-most : goal.rows_of_assignment-returns-clause-most
-rows_of_assignment-returns-clause-most g t c =
-    let same_vars : c.list-term_vars.result.now ≡ term_variables c.args.a.now.term.now = c.list-term_vars.ensures ∙ variables_same (set_has c.free_in_term.result) (λ v. term_has v c.args.a.now.term.now) (λ v l. c.free_in_term.ensures v l) in
-    keys_within c.args.d.now c.args.w.lo c.args.w.hi c.list-term_vars.result.now c.args.a.now.depth c.args.a.now.term.now (formula_view c.args.a.now.body.now) same_vars _ _ c.keys.key-index (length c.in_ok-keys.keys) c.keys.invariant.most
-    (let l : c.keys.key-index ≤ length c.items-key-items.result.now = c.keys.auto.key-index-end in let e = ap length c.items-key-items.ensures in omega (arith, l, e)) c.in_ok-keys.ensures.count
+pub rows_of_assignment-returns-clause-reads : goal.rows_of_assignment-returns-clause-reads
+rows_of_assignment-returns-clause-reads g t c = record {
+  least = c.keys.invariant.least;
+  most = (let same_vars : c.list-term_vars.result.now ≡ term_variables c.args.a.now.term.now = c.list-term_vars.ensures ∙ variables_same (set_has c.free_in_term.result) (λ v. term_has v c.args.a.now.term.now) (λ v l. c.free_in_term.ensures v l) in
+      keys_within c.args.d.now c.args.w.lo c.args.w.hi c.list-term_vars.result.now c.args.a.now.depth c.args.a.now.term.now (formula_view c.args.a.now.body.now) same_vars _ _ c.keys.key-index (length c.in_ok-keys.keys) c.keys.invariant.most
+      (let l : c.keys.key-index ≤ length c.items-key-items.result.now = c.keys.auto.key-index-end in let e = ap length c.items-key-items.ensures in omega (arith, l, e)) c.in_ok-keys.ensures.count);
+}
 
 pub rows_of_assignment-keys-preserved : goal.rows_of_assignment-keys-preserved
 rows_of_assignment-keys-preserved g t c = record {
@@ -509,8 +480,8 @@ rows_of_assignment-keys-preserved g t c = record {
       ap (λ (rs : (List (Table g.row.S.Denot))). some_part_has g.S.TickSet.member rs b u) c.in_ok-push_back.ensures.items
       ∙ key_more g.S.TickSet.member c.args.d.now c.args.w.lo c.args.w.hi c.list-term_vars.result.now (λ (b : ℕ → ℕ) (u : ℕ). sat (g.I.Interpreter.interpretation c.args.source.now b) (assignment_view c.args.a.now) c.args.env.now c.args.w.hi u) c.items-key-items.result.now (variables_of (assignment_view c.args.a.now)) c.keys.key-index c.key-item.result c.keys.parts.items c.in_ok-rows.rows
       (omega (arith, c.keys-test.true)) c.key-item.is c.keys.invariant.ticks c.in_ok-rows.ensures.rows b is_in u;
-  least = at_most_in_turn _ _ _ c.keys.invariant.least c.in_ok-rows.ensures.least;
-  most = one_step c.args.reads.now c.keys.reads _ c.keys.key-index (reads_at_key c.args.d.now c.args.w.lo c.args.w.hi c.list-term_vars.result.now (formula_view c.args.a.now.body.now)) c.keys.invariant.most c.in_ok-rows.ensures.most;
+  least = at_most_in_turn _ _ _ c.keys.invariant.least c.in_ok-rows.ensures.reads.least;
+  most = one_step c.args.reads.now c.keys.reads _ c.keys.key-index (reads_at_key c.args.d.now c.args.w.lo c.args.w.hi c.list-term_vars.result.now (formula_view c.args.a.now.body.now)) c.keys.invariant.most c.in_ok-rows.ensures.reads.most;
 }
 
 pub rows_of_assignment-united-requires-clause-alike : goal.rows_of_assignment-united-requires-clause-alike
@@ -608,67 +579,62 @@ rows_at_key-returns-clause-rows g t c = rows_at_key g.S.TickSet.member (g.I.Inte
     (subst (λ (rs : List ValueRun). AreRowsWhere g.S.TickSet.member c.in_ok-narrow.narrow c.args.w.lo c.args.w.hi (variables_of (formula_view c.args.a.now.body.now)) (run_holds (g.I.Interpreter.interpretation c.args.source.now) c.args.a.now.depth (formula_view c.args.a.now.body.now) c.args.env.now c.args.w.hi rs) c.in_ok-rows.rows) c.deref.ensures.value c.in_ok-rows.ensures.rows)
     c.in_ok-rows-2.ensures.ticks c.in_ok-rows-2.ensures.head.vars c.in_ok-own.ensures c.in_ok-made.ensures.ticks c.in_ok-made.ensures.vars c.in_ok-made.ensures.frame
 
-pub rows_at_key-returns-in_err-runs-clause-least : goal.rows_at_key-returns-in_err-runs-clause-least
-rows_at_key-returns-in_err-runs-clause-least g t c = c.in_err-runs.ensures.least
+pub rows_at_key-returns-in_err-runs-clause-reads : goal.rows_at_key-returns-in_err-runs-clause-reads
+rows_at_key-returns-in_err-runs-clause-reads g t c = record {
+  least = c.in_err-runs.ensures.reads.least;
+  most = term_within c.args.d.now c.args.w.lo c.args.w.hi c.args.term_vars.now c.args.a.now.term.now (formula_view c.args.a.now.body.now) c.requires.vars _ _ c.in_err-runs.ensures.reads.most;
+}
 
-pub rows_at_key-returns-in_err-runs-clause-most : goal.rows_at_key-returns-in_err-runs-clause-most
-rows_at_key-returns-in_err-runs-clause-most g t c = term_within c.args.d.now c.args.w.lo c.args.w.hi c.args.term_vars.now c.args.a.now.term.now (formula_view c.args.a.now.body.now) c.requires.vars _ _ c.in_err-runs.ensures.most
+pub rows_at_key-returns-in_err-narrow-clause-reads : goal.rows_at_key-returns-in_err-narrow-clause-reads
+rows_at_key-returns-in_err-narrow-clause-reads g t c = record {
+  least = c.in_ok-runs.ensures.reads.least;
+  most = term_within c.args.d.now c.args.w.lo c.args.w.hi c.args.term_vars.now c.args.a.now.term.now (formula_view c.args.a.now.body.now) c.requires.vars _ _ c.in_ok-runs.ensures.reads.most;
+}
 
-pub rows_at_key-returns-in_err-narrow-clause-least : goal.rows_at_key-returns-in_err-narrow-clause-least
-rows_at_key-returns-in_err-narrow-clause-least g t c = c.in_ok-runs.ensures.least
+pub rows_at_key-returns-in_err-rows-clause-reads : goal.rows_at_key-returns-in_err-rows-clause-reads
+rows_at_key-returns-in_err-rows-clause-reads g t c = record {
+  least = at_most_in_turn _ _ _ c.in_ok-runs.ensures.reads.least c.in_err-rows.ensures.reads.least;
+  most = (key_within c.args.d.now c.in_ok-narrow.narrow c.args.w.lo c.args.w.hi c.args.term_vars.now c.args.a.now.term.now (formula_view c.args.a.now.body.now) c.requires.vars
+      (narrowed_sizes c.args.d.now c.args.term_vars.now c.args.key.now c.in_ok-narrow.narrow c.in_ok-narrow.ensures c.requires.key (subst (λ (vs : List ℕ). are_known c.args.d.now vs ≡ true) (sym c.requires.vars) (known_variables c.args.d.now (λ v. term_has v c.args.a.now.term.now) (λ v l h. c.requires.over v (or_left (term_has v c.args.a.now.term.now) (has_variable v (formula_view c.args.a.now.body.now)) h)))))
+      _ _ _ (length c.deref.result.now) c.in_ok-runs.ensures.reads.most
+      (subst (λ (rs : List ValueRun). length rs ≤ c.args.w.hi + 1 - c.args.w.lo) (sym c.deref.ensures.value) c.in_ok-runs.ensures.runs.few) c.in_err-rows.ensures.reads.most);
+}
 
-pub rows_at_key-returns-in_err-narrow-clause-most : goal.rows_at_key-returns-in_err-narrow-clause-most
-rows_at_key-returns-in_err-narrow-clause-most g t c = term_within c.args.d.now c.args.w.lo c.args.w.hi c.args.term_vars.now c.args.a.now.term.now (formula_view c.args.a.now.body.now) c.requires.vars _ _ c.in_ok-runs.ensures.most
+pub rows_at_key-returns-in_err-rows-2-clause-reads : goal.rows_at_key-returns-in_err-rows-2-clause-reads
+rows_at_key-returns-in_err-rows-2-clause-reads g t c = record {
+  least = at_most_in_turn _ _ _ c.in_ok-runs.ensures.reads.least c.in_ok-rows.ensures.reads.least;
+  most = (key_within c.args.d.now c.in_ok-narrow.narrow c.args.w.lo c.args.w.hi c.args.term_vars.now c.args.a.now.term.now (formula_view c.args.a.now.body.now) c.requires.vars
+      (narrowed_sizes c.args.d.now c.args.term_vars.now c.args.key.now c.in_ok-narrow.narrow c.in_ok-narrow.ensures c.requires.key (subst (λ (vs : List ℕ). are_known c.args.d.now vs ≡ true) (sym c.requires.vars) (known_variables c.args.d.now (λ v. term_has v c.args.a.now.term.now) (λ v l h. c.requires.over v (or_left (term_has v c.args.a.now.term.now) (has_variable v (formula_view c.args.a.now.body.now)) h)))))
+      _ _ _ (length c.deref.result.now) c.in_ok-runs.ensures.reads.most
+      (subst (λ (rs : List ValueRun). length rs ≤ c.args.w.hi + 1 - c.args.w.lo) (sym c.deref.ensures.value) c.in_ok-runs.ensures.runs.few) c.in_ok-rows.ensures.reads.most);
+}
 
-pub rows_at_key-returns-in_err-rows-clause-least : goal.rows_at_key-returns-in_err-rows-clause-least
-rows_at_key-returns-in_err-rows-clause-least g t c = at_most_in_turn _ _ _ c.in_ok-runs.ensures.least c.in_err-rows.ensures.least
+pub rows_at_key-returns-in_err-own-clause-reads : goal.rows_at_key-returns-in_err-own-clause-reads
+rows_at_key-returns-in_err-own-clause-reads g t c = record {
+  least = at_most_in_turn _ _ _ c.in_ok-runs.ensures.reads.least c.in_ok-rows.ensures.reads.least;
+  most = (key_within c.args.d.now c.in_ok-narrow.narrow c.args.w.lo c.args.w.hi c.args.term_vars.now c.args.a.now.term.now (formula_view c.args.a.now.body.now) c.requires.vars
+      (narrowed_sizes c.args.d.now c.args.term_vars.now c.args.key.now c.in_ok-narrow.narrow c.in_ok-narrow.ensures c.requires.key (subst (λ (vs : List ℕ). are_known c.args.d.now vs ≡ true) (sym c.requires.vars) (known_variables c.args.d.now (λ v. term_has v c.args.a.now.term.now) (λ v l h. c.requires.over v (or_left (term_has v c.args.a.now.term.now) (has_variable v (formula_view c.args.a.now.body.now)) h)))))
+      _ _ _ (length c.deref.result.now) c.in_ok-runs.ensures.reads.most
+      (subst (λ (rs : List ValueRun). length rs ≤ c.args.w.hi + 1 - c.args.w.lo) (sym c.deref.ensures.value) c.in_ok-runs.ensures.runs.few) c.in_ok-rows.ensures.reads.most);
+}
 
-pub rows_at_key-returns-in_err-rows-clause-most : goal.rows_at_key-returns-in_err-rows-clause-most
-rows_at_key-returns-in_err-rows-clause-most g t c =
-    key_within c.args.d.now c.in_ok-narrow.narrow c.args.w.lo c.args.w.hi c.args.term_vars.now c.args.a.now.term.now (formula_view c.args.a.now.body.now) c.requires.vars
-    (narrowed_sizes c.args.d.now c.args.term_vars.now c.args.key.now c.in_ok-narrow.narrow c.in_ok-narrow.ensures c.requires.key (subst (λ (vs : List ℕ). are_known c.args.d.now vs ≡ true) (sym c.requires.vars) (known_variables c.args.d.now (λ v. term_has v c.args.a.now.term.now) (λ v l h. c.requires.over v (or_left (term_has v c.args.a.now.term.now) (has_variable v (formula_view c.args.a.now.body.now)) h)))))
-    _ _ _ (length c.deref.result.now) c.in_ok-runs.ensures.most
-    (subst (λ (rs : List ValueRun). length rs ≤ c.args.w.hi + 1 - c.args.w.lo) (sym c.deref.ensures.value) c.in_ok-runs.ensures.runs.few) c.in_err-rows.ensures.most
+pub rows_at_key-returns-in_err-made-clause-reads : goal.rows_at_key-returns-in_err-made-clause-reads
+rows_at_key-returns-in_err-made-clause-reads g t c = record {
+  least = at_most_in_turn _ _ _ c.in_ok-runs.ensures.reads.least c.in_ok-rows.ensures.reads.least;
+  most = (key_within c.args.d.now c.in_ok-narrow.narrow c.args.w.lo c.args.w.hi c.args.term_vars.now c.args.a.now.term.now (formula_view c.args.a.now.body.now) c.requires.vars
+      (narrowed_sizes c.args.d.now c.args.term_vars.now c.args.key.now c.in_ok-narrow.narrow c.in_ok-narrow.ensures c.requires.key (subst (λ (vs : List ℕ). are_known c.args.d.now vs ≡ true) (sym c.requires.vars) (known_variables c.args.d.now (λ v. term_has v c.args.a.now.term.now) (λ v l h. c.requires.over v (or_left (term_has v c.args.a.now.term.now) (has_variable v (formula_view c.args.a.now.body.now)) h)))))
+      _ _ _ (length c.deref.result.now) c.in_ok-runs.ensures.reads.most
+      (subst (λ (rs : List ValueRun). length rs ≤ c.args.w.hi + 1 - c.args.w.lo) (sym c.deref.ensures.value) c.in_ok-runs.ensures.runs.few) c.in_ok-rows.ensures.reads.most);
+}
 
-pub rows_at_key-returns-in_err-rows-2-clause-least : goal.rows_at_key-returns-in_err-rows-2-clause-least
-rows_at_key-returns-in_err-rows-2-clause-least g t c = at_most_in_turn _ _ _ c.in_ok-runs.ensures.least c.in_ok-rows.ensures.least
-
-pub rows_at_key-returns-in_err-rows-2-clause-most : goal.rows_at_key-returns-in_err-rows-2-clause-most
-rows_at_key-returns-in_err-rows-2-clause-most g t c =
-    key_within c.args.d.now c.in_ok-narrow.narrow c.args.w.lo c.args.w.hi c.args.term_vars.now c.args.a.now.term.now (formula_view c.args.a.now.body.now) c.requires.vars
-    (narrowed_sizes c.args.d.now c.args.term_vars.now c.args.key.now c.in_ok-narrow.narrow c.in_ok-narrow.ensures c.requires.key (subst (λ (vs : List ℕ). are_known c.args.d.now vs ≡ true) (sym c.requires.vars) (known_variables c.args.d.now (λ v. term_has v c.args.a.now.term.now) (λ v l h. c.requires.over v (or_left (term_has v c.args.a.now.term.now) (has_variable v (formula_view c.args.a.now.body.now)) h)))))
-    _ _ _ (length c.deref.result.now) c.in_ok-runs.ensures.most
-    (subst (λ (rs : List ValueRun). length rs ≤ c.args.w.hi + 1 - c.args.w.lo) (sym c.deref.ensures.value) c.in_ok-runs.ensures.runs.few) c.in_ok-rows.ensures.most
-
-pub rows_at_key-returns-in_err-own-clause-least : goal.rows_at_key-returns-in_err-own-clause-least
-rows_at_key-returns-in_err-own-clause-least g t c = at_most_in_turn _ _ _ c.in_ok-runs.ensures.least c.in_ok-rows.ensures.least
-
-pub rows_at_key-returns-in_err-own-clause-most : goal.rows_at_key-returns-in_err-own-clause-most
-rows_at_key-returns-in_err-own-clause-most g t c =
-    key_within c.args.d.now c.in_ok-narrow.narrow c.args.w.lo c.args.w.hi c.args.term_vars.now c.args.a.now.term.now (formula_view c.args.a.now.body.now) c.requires.vars
-    (narrowed_sizes c.args.d.now c.args.term_vars.now c.args.key.now c.in_ok-narrow.narrow c.in_ok-narrow.ensures c.requires.key (subst (λ (vs : List ℕ). are_known c.args.d.now vs ≡ true) (sym c.requires.vars) (known_variables c.args.d.now (λ v. term_has v c.args.a.now.term.now) (λ v l h. c.requires.over v (or_left (term_has v c.args.a.now.term.now) (has_variable v (formula_view c.args.a.now.body.now)) h)))))
-    _ _ _ (length c.deref.result.now) c.in_ok-runs.ensures.most
-    (subst (λ (rs : List ValueRun). length rs ≤ c.args.w.hi + 1 - c.args.w.lo) (sym c.deref.ensures.value) c.in_ok-runs.ensures.runs.few) c.in_ok-rows.ensures.most
-
-pub rows_at_key-returns-in_err-made-clause-least : goal.rows_at_key-returns-in_err-made-clause-least
-rows_at_key-returns-in_err-made-clause-least g t c = at_most_in_turn _ _ _ c.in_ok-runs.ensures.least c.in_ok-rows.ensures.least
-
-pub rows_at_key-returns-in_err-made-clause-most : goal.rows_at_key-returns-in_err-made-clause-most
-rows_at_key-returns-in_err-made-clause-most g t c =
-    key_within c.args.d.now c.in_ok-narrow.narrow c.args.w.lo c.args.w.hi c.args.term_vars.now c.args.a.now.term.now (formula_view c.args.a.now.body.now) c.requires.vars
-    (narrowed_sizes c.args.d.now c.args.term_vars.now c.args.key.now c.in_ok-narrow.narrow c.in_ok-narrow.ensures c.requires.key (subst (λ (vs : List ℕ). are_known c.args.d.now vs ≡ true) (sym c.requires.vars) (known_variables c.args.d.now (λ v. term_has v c.args.a.now.term.now) (λ v l h. c.requires.over v (or_left (term_has v c.args.a.now.term.now) (has_variable v (formula_view c.args.a.now.body.now)) h)))))
-    _ _ _ (length c.deref.result.now) c.in_ok-runs.ensures.most
-    (subst (λ (rs : List ValueRun). length rs ≤ c.args.w.hi + 1 - c.args.w.lo) (sym c.deref.ensures.value) c.in_ok-runs.ensures.runs.few) c.in_ok-rows.ensures.most
-
-pub rows_at_key-returns-clause-least : goal.rows_at_key-returns-clause-least
-rows_at_key-returns-clause-least g t c = at_most_in_turn _ _ _ c.in_ok-runs.ensures.least c.in_ok-rows.ensures.least
-
-pub rows_at_key-returns-clause-most : goal.rows_at_key-returns-clause-most
-rows_at_key-returns-clause-most g t c =
-    key_within c.args.d.now c.in_ok-narrow.narrow c.args.w.lo c.args.w.hi c.args.term_vars.now c.args.a.now.term.now (formula_view c.args.a.now.body.now) c.requires.vars
-    (narrowed_sizes c.args.d.now c.args.term_vars.now c.args.key.now c.in_ok-narrow.narrow c.in_ok-narrow.ensures c.requires.key (subst (λ (vs : List ℕ). are_known c.args.d.now vs ≡ true) (sym c.requires.vars) (known_variables c.args.d.now (λ v. term_has v c.args.a.now.term.now) (λ v l h. c.requires.over v (or_left (term_has v c.args.a.now.term.now) (has_variable v (formula_view c.args.a.now.body.now)) h)))))
-    _ _ _ (length c.deref.result.now) c.in_ok-runs.ensures.most
-    (subst (λ (rs : List ValueRun). length rs ≤ c.args.w.hi + 1 - c.args.w.lo) (sym c.deref.ensures.value) c.in_ok-runs.ensures.runs.few) c.in_ok-rows.ensures.most
+pub rows_at_key-returns-clause-reads : goal.rows_at_key-returns-clause-reads
+rows_at_key-returns-clause-reads g t c = record {
+  least = at_most_in_turn _ _ _ c.in_ok-runs.ensures.reads.least c.in_ok-rows.ensures.reads.least;
+  most = (key_within c.args.d.now c.in_ok-narrow.narrow c.args.w.lo c.args.w.hi c.args.term_vars.now c.args.a.now.term.now (formula_view c.args.a.now.body.now) c.requires.vars
+      (narrowed_sizes c.args.d.now c.args.term_vars.now c.args.key.now c.in_ok-narrow.narrow c.in_ok-narrow.ensures c.requires.key (subst (λ (vs : List ℕ). are_known c.args.d.now vs ≡ true) (sym c.requires.vars) (known_variables c.args.d.now (λ v. term_has v c.args.a.now.term.now) (λ v l h. c.requires.over v (or_left (term_has v c.args.a.now.term.now) (has_variable v (formula_view c.args.a.now.body.now)) h)))))
+      _ _ _ (length c.deref.result.now) c.in_ok-runs.ensures.reads.most
+      (subst (λ (rs : List ValueRun). length rs ≤ c.args.w.hi + 1 - c.args.w.lo) (sym c.deref.ensures.value) c.in_ok-runs.ensures.runs.few) c.in_ok-rows.ensures.reads.most);
+}
 
 pub rows_of_runs-runs-init : goal.rows_of_runs-runs-init
 rows_of_runs-runs-init g t c = record {
@@ -700,33 +666,31 @@ rows_of_runs-rows_of_section-requires g t c κs lives = (
   ),
 )
 
-pub rows_of_runs-returns-in_err-part-clause-least : goal.rows_of_runs-returns-in_err-part-clause-least
-rows_of_runs-returns-in_err-part-clause-least g t c = at_most_in_turn _ _ _ c.runs.invariant.least c.in_err-part.ensures.least
+pub rows_of_runs-returns-in_err-part-clause-reads : goal.rows_of_runs-returns-in_err-part-clause-reads
+rows_of_runs-returns-in_err-part-clause-reads g t c = record {
+  least = at_most_in_turn _ _ _ c.runs.invariant.least c.in_err-part.ensures.reads.least;
+  most = (steps_within c.args.reads.now _ (c.runs.run-index + 1) (length c.args.runs.now) (reads_upto c.args.d.now c.args.w.lo c.args.w.hi (formula_view c.args.a.now.body.now))
+      (one_step c.args.reads.now c.runs.reads _ c.runs.run-index (reads_upto c.args.d.now c.args.w.lo c.args.w.hi (formula_view c.args.a.now.body.now)) c.runs.invariant.most c.in_err-part.ensures.reads.most) (omega (arith, c.runs-test.true)));
+}
 
-pub rows_of_runs-returns-in_err-part-clause-most : goal.rows_of_runs-returns-in_err-part-clause-most
-rows_of_runs-returns-in_err-part-clause-most g t c =
-    steps_within c.args.reads.now _ (c.runs.run-index + 1) (length c.args.runs.now) (reads_upto c.args.d.now c.args.w.lo c.args.w.hi (formula_view c.args.a.now.body.now))
-    (one_step c.args.reads.now c.runs.reads _ c.runs.run-index (reads_upto c.args.d.now c.args.w.lo c.args.w.hi (formula_view c.args.a.now.body.now)) c.runs.invariant.most c.in_err-part.ensures.most) (omega (arith, c.runs-test.true))
+pub rows_of_runs-returns-in_err-push_back-clause-reads : goal.rows_of_runs-returns-in_err-push_back-clause-reads
+rows_of_runs-returns-in_err-push_back-clause-reads g t c = record {
+  least = at_most_in_turn _ _ _ c.runs.invariant.least c.in_ok-part.ensures.reads.least;
+  most = (steps_within c.args.reads.now _ (c.runs.run-index + 1) (length c.args.runs.now) (reads_upto c.args.d.now c.args.w.lo c.args.w.hi (formula_view c.args.a.now.body.now))
+      (one_step c.args.reads.now c.runs.reads _ c.runs.run-index (reads_upto c.args.d.now c.args.w.lo c.args.w.hi (formula_view c.args.a.now.body.now)) c.runs.invariant.most c.in_ok-part.ensures.reads.most) (omega (arith, c.runs-test.true)));
+}
 
-pub rows_of_runs-returns-in_err-push_back-clause-least : goal.rows_of_runs-returns-in_err-push_back-clause-least
-rows_of_runs-returns-in_err-push_back-clause-least g t c = at_most_in_turn _ _ _ c.runs.invariant.least c.in_ok-part.ensures.least
+pub rows_of_runs-returns-in_err-made-clause-reads : goal.rows_of_runs-returns-in_err-made-clause-reads
+rows_of_runs-returns-in_err-made-clause-reads g t c = record {
+  least = c.runs.invariant.least;
+  most = steps_within c.args.reads.now c.runs.reads c.runs.run-index (length c.args.runs.now) (reads_upto c.args.d.now c.args.w.lo c.args.w.hi (formula_view c.args.a.now.body.now)) c.runs.invariant.most c.runs.auto.run-index-end;
+}
 
-pub rows_of_runs-returns-in_err-push_back-clause-most : goal.rows_of_runs-returns-in_err-push_back-clause-most
-rows_of_runs-returns-in_err-push_back-clause-most g t c =
-    steps_within c.args.reads.now _ (c.runs.run-index + 1) (length c.args.runs.now) (reads_upto c.args.d.now c.args.w.lo c.args.w.hi (formula_view c.args.a.now.body.now))
-    (one_step c.args.reads.now c.runs.reads _ c.runs.run-index (reads_upto c.args.d.now c.args.w.lo c.args.w.hi (formula_view c.args.a.now.body.now)) c.runs.invariant.most c.in_ok-part.ensures.most) (omega (arith, c.runs-test.true))
-
-pub rows_of_runs-returns-in_err-made-clause-least : goal.rows_of_runs-returns-in_err-made-clause-least
-rows_of_runs-returns-in_err-made-clause-least g t c = c.runs.invariant.least
-
-pub rows_of_runs-returns-in_err-made-clause-most : goal.rows_of_runs-returns-in_err-made-clause-most
-rows_of_runs-returns-in_err-made-clause-most g t c = steps_within c.args.reads.now c.runs.reads c.runs.run-index (length c.args.runs.now) (reads_upto c.args.d.now c.args.w.lo c.args.w.hi (formula_view c.args.a.now.body.now)) c.runs.invariant.most c.runs.auto.run-index-end
-
-pub rows_of_runs-returns-clause-least : goal.rows_of_runs-returns-clause-least
-rows_of_runs-returns-clause-least g t c = c.runs.invariant.least
-
-pub rows_of_runs-returns-clause-most : goal.rows_of_runs-returns-clause-most
-rows_of_runs-returns-clause-most g t c = steps_within c.args.reads.now c.runs.reads c.runs.run-index (length c.args.runs.now) (reads_upto c.args.d.now c.args.w.lo c.args.w.hi (formula_view c.args.a.now.body.now)) c.runs.invariant.most c.runs.auto.run-index-end
+pub rows_of_runs-returns-clause-reads : goal.rows_of_runs-returns-clause-reads
+rows_of_runs-returns-clause-reads g t c = record {
+  least = c.runs.invariant.least;
+  most = steps_within c.args.reads.now c.runs.reads c.runs.run-index (length c.args.runs.now) (reads_upto c.args.d.now c.args.w.lo c.args.w.hi (formula_view c.args.a.now.body.now)) c.runs.invariant.most c.runs.auto.run-index-end;
+}
 
 pub rows_of_runs-runs-preserved : goal.rows_of_runs-runs-preserved
 rows_of_runs-runs-preserved g t c = record {
@@ -738,8 +702,8 @@ rows_of_runs-runs-preserved g t c = record {
       (omega (arith, c.runs-test.true)) c.run-item.is c.runs.invariant.ticks
       (subst (λ (x : Env). AreRowsWhere g.S.TickSet.member c.args.d.now c.args.w.lo c.args.w.hi (variables_of (formula_view c.args.a.now.body.now)) (λ p r. within c.run-item.result.span.lo c.run-item.result.span.hi r && sat (g.I.Interpreter.interpretation c.args.source.now p) (formula_view c.args.a.now.body.now) x c.args.w.hi r) c.in_ok-part.part) c.with-bound.ensures c.in_ok-part.ensures.rows)
       b is_in u;
-  least = at_most_in_turn _ _ _ c.runs.invariant.least c.in_ok-part.ensures.least;
-  most = one_step c.args.reads.now c.runs.reads _ c.runs.run-index (reads_upto c.args.d.now c.args.w.lo c.args.w.hi (formula_view c.args.a.now.body.now)) c.runs.invariant.most c.in_ok-part.ensures.most;
+  least = at_most_in_turn _ _ _ c.runs.invariant.least c.in_ok-part.ensures.reads.least;
+  most = one_step c.args.reads.now c.runs.reads _ c.runs.run-index (reads_upto c.args.d.now c.args.w.lo c.args.w.hi (formula_view c.args.a.now.body.now)) c.runs.invariant.most c.in_ok-part.ensures.reads.most;
 }
 
 pub rows_of_runs-united-requires-clause-alike : goal.rows_of_runs-united-requires-clause-alike
@@ -791,23 +755,23 @@ rows_of_section-rows_of-requires g t c κs lives = (
 pub rows_of_section-rows_at-requires : goal.rows_of_section-rows_at-requires
 rows_of_section-rows_at-requires g t c = ap (λ (z : Frame). z.domains) c.in_ok-rows.ensures.rows.frame
 
-pub rows_of_section-returns-in_err-rows-clause-least : goal.rows_of_section-returns-in_err-rows-clause-least
-rows_of_section-returns-in_err-rows-clause-least g t c = c.in_err-rows.ensures.least
+pub rows_of_section-returns-in_err-rows-clause-reads : goal.rows_of_section-returns-in_err-rows-clause-reads
+rows_of_section-returns-in_err-rows-clause-reads g t c = record {
+  least = c.in_err-rows.ensures.reads.least;
+  most = most_seen _ _ _ _ (section_reads (domain_size c.args.d.now) (formula_view c.args.f.now) c.args.section.window.lo c.args.section.window.hi c.args.section.span.lo c.args.section.span.hi c.seen_by-w.result.lo c.seen_by-w.result.hi c.args.section.begins c.args.section.ends c.seen_by-w.ensures.lo c.seen_by-w.ensures.hi) c.in_err-rows.ensures.reads.most;
+}
 
-pub rows_of_section-returns-in_err-rows-clause-most : goal.rows_of_section-returns-in_err-rows-clause-most
-rows_of_section-returns-in_err-rows-clause-most g t c = most_seen _ _ _ _ (section_reads (domain_size c.args.d.now) (formula_view c.args.f.now) c.args.section.window.lo c.args.section.window.hi c.args.section.span.lo c.args.section.span.hi c.seen_by-w.result.lo c.seen_by-w.result.hi c.args.section.begins c.args.section.ends c.seen_by-w.ensures.lo c.seen_by-w.ensures.hi) c.in_err-rows.ensures.most
+pub rows_of_section-returns-in_err-made-clause-reads : goal.rows_of_section-returns-in_err-made-clause-reads
+rows_of_section-returns-in_err-made-clause-reads g t c = record {
+  least = c.in_ok-rows.ensures.reads.least;
+  most = most_seen _ _ _ _ (section_reads (domain_size c.args.d.now) (formula_view c.args.f.now) c.args.section.window.lo c.args.section.window.hi c.args.section.span.lo c.args.section.span.hi c.seen_by-w.result.lo c.seen_by-w.result.hi c.args.section.begins c.args.section.ends c.seen_by-w.ensures.lo c.seen_by-w.ensures.hi) c.in_ok-rows.ensures.reads.most;
+}
 
-pub rows_of_section-returns-in_err-made-clause-least : goal.rows_of_section-returns-in_err-made-clause-least
-rows_of_section-returns-in_err-made-clause-least g t c = c.in_ok-rows.ensures.least
-
-pub rows_of_section-returns-in_err-made-clause-most : goal.rows_of_section-returns-in_err-made-clause-most
-rows_of_section-returns-in_err-made-clause-most g t c = most_seen _ _ _ _ (section_reads (domain_size c.args.d.now) (formula_view c.args.f.now) c.args.section.window.lo c.args.section.window.hi c.args.section.span.lo c.args.section.span.hi c.seen_by-w.result.lo c.seen_by-w.result.hi c.args.section.begins c.args.section.ends c.seen_by-w.ensures.lo c.seen_by-w.ensures.hi) c.in_ok-rows.ensures.most
-
-pub rows_of_section-returns-clause-least : goal.rows_of_section-returns-clause-least
-rows_of_section-returns-clause-least g t c = c.in_ok-rows.ensures.least
-
-pub rows_of_section-returns-clause-most : goal.rows_of_section-returns-clause-most
-rows_of_section-returns-clause-most g t c = most_seen _ _ _ _ (section_reads (domain_size c.args.d.now) (formula_view c.args.f.now) c.args.section.window.lo c.args.section.window.hi c.args.section.span.lo c.args.section.span.hi c.seen_by-w.result.lo c.seen_by-w.result.hi c.args.section.begins c.args.section.ends c.seen_by-w.ensures.lo c.seen_by-w.ensures.hi) c.in_ok-rows.ensures.most
+pub rows_of_section-returns-clause-reads : goal.rows_of_section-returns-clause-reads
+rows_of_section-returns-clause-reads g t c = record {
+  least = c.in_ok-rows.ensures.reads.least;
+  most = most_seen _ _ _ _ (section_reads (domain_size c.args.d.now) (formula_view c.args.f.now) c.args.section.window.lo c.args.section.window.hi c.args.section.span.lo c.args.section.span.hi c.seen_by-w.result.lo c.seen_by-w.result.hi c.args.section.begins c.args.section.ends c.seen_by-w.ensures.lo c.seen_by-w.ensures.hi) c.in_ok-rows.ensures.reads.most;
+}
 
 pub rows_of_section-returns-clause-rows : goal.rows_of_section-returns-clause-rows
 rows_of_section-returns-clause-rows g t c =

@@ -35,19 +35,17 @@ pub ticks_of-returns-in_ok-made-in-Atom-clause-ticks : goal.ticks_of-returns-in_
 ticks_of-returns-in_ok-made-in-Atom-clause-ticks g t c =
     subst (λ (z : ResolvedTree). AreTicksOf g.S.TickSet.member (g.I.Interpreter.interpretation c.args.source.now (slice_index c.args.binding.now)) c.args.w.lo c.args.w.hi z c.args.env.now c.in_ok-made-in-Atom.made) c.in-Atom.ensures c.in_ok-made-in-Atom.ensures.ticks
 
-pub ticks_of-returns-in_err-made-in-Atom-clause-least : goal.ticks_of-returns-in_err-made-in-Atom-clause-least
-ticks_of-returns-in_err-made-in-Atom-clause-least g t c = c.in_err-made-in-Atom.ensures.least
+pub ticks_of-returns-in_err-made-in-Atom-clause-reads : goal.ticks_of-returns-in_err-made-in-Atom-clause-reads
+ticks_of-returns-in_err-made-in-Atom-clause-reads g t c = record {
+  least = c.in_err-made-in-Atom.ensures.reads.least;
+  most = most_same _ _ (reads_here c.args.w.lo c.args.w.hi (formula_view c.args.f.now)) (length (atom_variables c.in-Atom.atom.now)) (ap (reads_here c.args.w.lo c.args.w.hi) (sym c.in-Atom.ensures) ∙ reads_of_atom c.args.w.lo c.args.w.hi c.in-Atom.atom.now) c.in_err-made-in-Atom.ensures.reads.most;
+}
 
-pub ticks_of-returns-in_err-made-in-Atom-clause-most : goal.ticks_of-returns-in_err-made-in-Atom-clause-most
-ticks_of-returns-in_err-made-in-Atom-clause-most g t c =
-    most_same _ _ (reads_here c.args.w.lo c.args.w.hi (formula_view c.args.f.now)) (length (atom_variables c.in-Atom.atom.now)) (ap (reads_here c.args.w.lo c.args.w.hi) (sym c.in-Atom.ensures) ∙ reads_of_atom c.args.w.lo c.args.w.hi c.in-Atom.atom.now) c.in_err-made-in-Atom.ensures.most
-
-pub ticks_of-returns-in_ok-made-in-Atom-clause-least : goal.ticks_of-returns-in_ok-made-in-Atom-clause-least
-ticks_of-returns-in_ok-made-in-Atom-clause-least g t c = c.in_ok-made-in-Atom.ensures.least
-
-pub ticks_of-returns-in_ok-made-in-Atom-clause-most : goal.ticks_of-returns-in_ok-made-in-Atom-clause-most
-ticks_of-returns-in_ok-made-in-Atom-clause-most g t c =
-    most_same _ _ (reads_here c.args.w.lo c.args.w.hi (formula_view c.args.f.now)) (length (atom_variables c.in-Atom.atom.now)) (ap (reads_here c.args.w.lo c.args.w.hi) (sym c.in-Atom.ensures) ∙ reads_of_atom c.args.w.lo c.args.w.hi c.in-Atom.atom.now) c.in_ok-made-in-Atom.ensures.most
+pub ticks_of-returns-in_ok-made-in-Atom-clause-reads : goal.ticks_of-returns-in_ok-made-in-Atom-clause-reads
+ticks_of-returns-in_ok-made-in-Atom-clause-reads g t c = record {
+  least = c.in_ok-made-in-Atom.ensures.reads.least;
+  most = most_same _ _ (reads_here c.args.w.lo c.args.w.hi (formula_view c.args.f.now)) (length (atom_variables c.in-Atom.atom.now)) (ap (reads_here c.args.w.lo c.args.w.hi) (sym c.in-Atom.ensures) ∙ reads_of_atom c.args.w.lo c.args.w.hi c.in-Atom.atom.now) c.in_ok-made-in-Atom.ensures.reads.most;
+}
 
 pub ticks_of-ticks_of-requires : goal.ticks_of-ticks_of-requires
 ticks_of-ticks_of-requires g t c κs lives =
@@ -65,26 +63,23 @@ ticks_of-returns-in_ok-made-in-One-clause-ticks g t c =
     subst (λ (z : ResolvedTree). AreTicksOf g.S.TickSet.member (g.I.Interpreter.interpretation c.args.source.now (slice_index c.args.binding.now)) c.args.w.lo c.args.w.hi z c.args.env.now c.in_ok-made-in-One.made) c.in-One.ensures
     (one_ticks g.S.TickSet.member c.args.w.lo c.args.w.hi (g.I.Interpreter.interpretation c.args.source.now (slice_index c.args.binding.now)) c.args.env.now c.in-One.change (formula_view c.in-One.part.now) c.in_ok-ticks-in-One.ticks c.in_ok-made-in-One.made c.in_ok-ticks-in-One.ensures.ticks c.in_ok-made-in-One.ensures)
 
-pub ticks_of-returns-in_err-ticks-in-One-clause-least : goal.ticks_of-returns-in_err-ticks-in-One-clause-least
-ticks_of-returns-in_err-ticks-in-One-clause-least g t c = c.in_err-ticks-in-One.ensures.least
+pub ticks_of-returns-in_err-ticks-in-One-clause-reads : goal.ticks_of-returns-in_err-ticks-in-One-clause-reads
+ticks_of-returns-in_err-ticks-in-One-clause-reads g t c = record {
+  least = c.in_err-ticks-in-One.ensures.reads.least;
+  most = most_same _ _ (reads_here c.args.w.lo c.args.w.hi (formula_view c.args.f.now)) (reads_here c.args.w.lo c.args.w.hi (formula_view c.in-One.part.now)) (ap (reads_here c.args.w.lo c.args.w.hi) (sym c.in-One.ensures) ∙ changed_reads (λ _. 1) (c.args.w.hi + 1 - c.args.w.lo) c.in-One.change (formula_view c.in-One.part.now)) c.in_err-ticks-in-One.ensures.reads.most;
+}
 
-pub ticks_of-returns-in_err-ticks-in-One-clause-most : goal.ticks_of-returns-in_err-ticks-in-One-clause-most
-ticks_of-returns-in_err-ticks-in-One-clause-most g t c =
-    most_same _ _ (reads_here c.args.w.lo c.args.w.hi (formula_view c.args.f.now)) (reads_here c.args.w.lo c.args.w.hi (formula_view c.in-One.part.now)) (ap (reads_here c.args.w.lo c.args.w.hi) (sym c.in-One.ensures) ∙ changed_reads (λ _. 1) (c.args.w.hi + 1 - c.args.w.lo) c.in-One.change (formula_view c.in-One.part.now)) c.in_err-ticks-in-One.ensures.most
+pub ticks_of-returns-in_err-made-in-One-clause-reads : goal.ticks_of-returns-in_err-made-in-One-clause-reads
+ticks_of-returns-in_err-made-in-One-clause-reads g t c = record {
+  least = c.in_ok-ticks-in-One.ensures.reads.least;
+  most = most_same _ _ (reads_here c.args.w.lo c.args.w.hi (formula_view c.args.f.now)) (reads_here c.args.w.lo c.args.w.hi (formula_view c.in-One.part.now)) (ap (reads_here c.args.w.lo c.args.w.hi) (sym c.in-One.ensures) ∙ changed_reads (λ _. 1) (c.args.w.hi + 1 - c.args.w.lo) c.in-One.change (formula_view c.in-One.part.now)) c.in_ok-ticks-in-One.ensures.reads.most;
+}
 
-pub ticks_of-returns-in_err-made-in-One-clause-least : goal.ticks_of-returns-in_err-made-in-One-clause-least
-ticks_of-returns-in_err-made-in-One-clause-least g t c = c.in_ok-ticks-in-One.ensures.least
-
-pub ticks_of-returns-in_err-made-in-One-clause-most : goal.ticks_of-returns-in_err-made-in-One-clause-most
-ticks_of-returns-in_err-made-in-One-clause-most g t c =
-    most_same _ _ (reads_here c.args.w.lo c.args.w.hi (formula_view c.args.f.now)) (reads_here c.args.w.lo c.args.w.hi (formula_view c.in-One.part.now)) (ap (reads_here c.args.w.lo c.args.w.hi) (sym c.in-One.ensures) ∙ changed_reads (λ _. 1) (c.args.w.hi + 1 - c.args.w.lo) c.in-One.change (formula_view c.in-One.part.now)) c.in_ok-ticks-in-One.ensures.most
-
-pub ticks_of-returns-in_ok-made-in-One-clause-least : goal.ticks_of-returns-in_ok-made-in-One-clause-least
-ticks_of-returns-in_ok-made-in-One-clause-least g t c = c.in_ok-ticks-in-One.ensures.least
-
-pub ticks_of-returns-in_ok-made-in-One-clause-most : goal.ticks_of-returns-in_ok-made-in-One-clause-most
-ticks_of-returns-in_ok-made-in-One-clause-most g t c =
-    most_same _ _ (reads_here c.args.w.lo c.args.w.hi (formula_view c.args.f.now)) (reads_here c.args.w.lo c.args.w.hi (formula_view c.in-One.part.now)) (ap (reads_here c.args.w.lo c.args.w.hi) (sym c.in-One.ensures) ∙ changed_reads (λ _. 1) (c.args.w.hi + 1 - c.args.w.lo) c.in-One.change (formula_view c.in-One.part.now)) c.in_ok-ticks-in-One.ensures.most
+pub ticks_of-returns-in_ok-made-in-One-clause-reads : goal.ticks_of-returns-in_ok-made-in-One-clause-reads
+ticks_of-returns-in_ok-made-in-One-clause-reads g t c = record {
+  least = c.in_ok-ticks-in-One.ensures.reads.least;
+  most = most_same _ _ (reads_here c.args.w.lo c.args.w.hi (formula_view c.args.f.now)) (reads_here c.args.w.lo c.args.w.hi (formula_view c.in-One.part.now)) (ap (reads_here c.args.w.lo c.args.w.hi) (sym c.in-One.ensures) ∙ changed_reads (λ _. 1) (c.args.w.hi + 1 - c.args.w.lo) c.in-One.change (formula_view c.in-One.part.now)) c.in_ok-ticks-in-One.ensures.reads.most;
+}
 
 pub ticks_of-ticks_of-requires-in-Two : goal.ticks_of-ticks_of-requires-in-Two
 ticks_of-ticks_of-requires-in-Two g t c κs lives =
@@ -113,33 +108,29 @@ ticks_of-returns-in_ok-made-in-Two-clause-ticks g t c =
     subst (λ (z : ResolvedTree). AreTicksOf g.S.TickSet.member (g.I.Interpreter.interpretation c.args.source.now (slice_index c.args.binding.now)) c.args.w.lo c.args.w.hi z c.args.env.now c.in_ok-made-in-Two.made) c.in-Two.ensures
     (two_ticks g.S.TickSet.member c.args.w.lo c.args.w.hi (g.I.Interpreter.interpretation c.args.source.now (slice_index c.args.binding.now)) c.args.env.now c.in-Two.pairing (formula_view c.in-Two.left.now) (formula_view c.in-Two.right.now) c.in_ok-left-in-Two.left c.in_ok-right-in-Two.right c.in_ok-made-in-Two.made c.in_ok-left-in-Two.ensures.ticks c.in_ok-right-in-Two.ensures.ticks c.in_ok-made-in-Two.ensures)
 
-pub ticks_of-returns-in_err-left-in-Two-clause-least : goal.ticks_of-returns-in_err-left-in-Two-clause-least
-ticks_of-returns-in_err-left-in-Two-clause-least g t c = c.in_err-left-in-Two.ensures.least
+pub ticks_of-returns-in_err-left-in-Two-clause-reads : goal.ticks_of-returns-in_err-left-in-Two-clause-reads
+ticks_of-returns-in_err-left-in-Two-clause-reads g t c = record {
+  least = c.in_err-left-in-Two.ensures.reads.least;
+  most = most_first _ _ (reads_here c.args.w.lo c.args.w.hi (formula_view c.args.f.now)) (reads_here c.args.w.lo c.args.w.hi (formula_view c.in-Two.left.now)) (reads_here c.args.w.lo c.args.w.hi (formula_view c.in-Two.right.now)) (ap (reads_here c.args.w.lo c.args.w.hi) (sym c.in-Two.ensures) ∙ paired_reads (λ _. 1) (c.args.w.hi + 1 - c.args.w.lo) c.in-Two.pairing (formula_view c.in-Two.left.now) (formula_view c.in-Two.right.now)) c.in_err-left-in-Two.ensures.reads.most;
+}
 
-pub ticks_of-returns-in_err-left-in-Two-clause-most : goal.ticks_of-returns-in_err-left-in-Two-clause-most
-ticks_of-returns-in_err-left-in-Two-clause-most g t c =
-    most_first _ _ (reads_here c.args.w.lo c.args.w.hi (formula_view c.args.f.now)) (reads_here c.args.w.lo c.args.w.hi (formula_view c.in-Two.left.now)) (reads_here c.args.w.lo c.args.w.hi (formula_view c.in-Two.right.now)) (ap (reads_here c.args.w.lo c.args.w.hi) (sym c.in-Two.ensures) ∙ paired_reads (λ _. 1) (c.args.w.hi + 1 - c.args.w.lo) c.in-Two.pairing (formula_view c.in-Two.left.now) (formula_view c.in-Two.right.now)) c.in_err-left-in-Two.ensures.most
+pub ticks_of-returns-in_err-right-in-Two-clause-reads : goal.ticks_of-returns-in_err-right-in-Two-clause-reads
+ticks_of-returns-in_err-right-in-Two-clause-reads g t c = record {
+  least = at_most_in_turn _ _ _ c.in_ok-left-in-Two.ensures.reads.least c.in_err-right-in-Two.ensures.reads.least;
+  most = most_both _ _ _ (reads_here c.args.w.lo c.args.w.hi (formula_view c.args.f.now)) (reads_here c.args.w.lo c.args.w.hi (formula_view c.in-Two.left.now)) (reads_here c.args.w.lo c.args.w.hi (formula_view c.in-Two.right.now)) (ap (reads_here c.args.w.lo c.args.w.hi) (sym c.in-Two.ensures) ∙ paired_reads (λ _. 1) (c.args.w.hi + 1 - c.args.w.lo) c.in-Two.pairing (formula_view c.in-Two.left.now) (formula_view c.in-Two.right.now)) c.in_ok-left-in-Two.ensures.reads.most c.in_err-right-in-Two.ensures.reads.most;
+}
 
-pub ticks_of-returns-in_err-right-in-Two-clause-least : goal.ticks_of-returns-in_err-right-in-Two-clause-least
-ticks_of-returns-in_err-right-in-Two-clause-least g t c = at_most_in_turn _ _ _ c.in_ok-left-in-Two.ensures.least c.in_err-right-in-Two.ensures.least
+pub ticks_of-returns-in_err-made-in-Two-clause-reads : goal.ticks_of-returns-in_err-made-in-Two-clause-reads
+ticks_of-returns-in_err-made-in-Two-clause-reads g t c = record {
+  least = at_most_in_turn _ _ _ c.in_ok-left-in-Two.ensures.reads.least c.in_ok-right-in-Two.ensures.reads.least;
+  most = most_both _ _ _ (reads_here c.args.w.lo c.args.w.hi (formula_view c.args.f.now)) (reads_here c.args.w.lo c.args.w.hi (formula_view c.in-Two.left.now)) (reads_here c.args.w.lo c.args.w.hi (formula_view c.in-Two.right.now)) (ap (reads_here c.args.w.lo c.args.w.hi) (sym c.in-Two.ensures) ∙ paired_reads (λ _. 1) (c.args.w.hi + 1 - c.args.w.lo) c.in-Two.pairing (formula_view c.in-Two.left.now) (formula_view c.in-Two.right.now)) c.in_ok-left-in-Two.ensures.reads.most c.in_ok-right-in-Two.ensures.reads.most;
+}
 
-pub ticks_of-returns-in_err-right-in-Two-clause-most : goal.ticks_of-returns-in_err-right-in-Two-clause-most
-ticks_of-returns-in_err-right-in-Two-clause-most g t c =
-    most_both _ _ _ (reads_here c.args.w.lo c.args.w.hi (formula_view c.args.f.now)) (reads_here c.args.w.lo c.args.w.hi (formula_view c.in-Two.left.now)) (reads_here c.args.w.lo c.args.w.hi (formula_view c.in-Two.right.now)) (ap (reads_here c.args.w.lo c.args.w.hi) (sym c.in-Two.ensures) ∙ paired_reads (λ _. 1) (c.args.w.hi + 1 - c.args.w.lo) c.in-Two.pairing (formula_view c.in-Two.left.now) (formula_view c.in-Two.right.now)) c.in_ok-left-in-Two.ensures.most c.in_err-right-in-Two.ensures.most
-
-pub ticks_of-returns-in_err-made-in-Two-clause-least : goal.ticks_of-returns-in_err-made-in-Two-clause-least
-ticks_of-returns-in_err-made-in-Two-clause-least g t c = at_most_in_turn _ _ _ c.in_ok-left-in-Two.ensures.least c.in_ok-right-in-Two.ensures.least
-
-pub ticks_of-returns-in_err-made-in-Two-clause-most : goal.ticks_of-returns-in_err-made-in-Two-clause-most
-ticks_of-returns-in_err-made-in-Two-clause-most g t c =
-    most_both _ _ _ (reads_here c.args.w.lo c.args.w.hi (formula_view c.args.f.now)) (reads_here c.args.w.lo c.args.w.hi (formula_view c.in-Two.left.now)) (reads_here c.args.w.lo c.args.w.hi (formula_view c.in-Two.right.now)) (ap (reads_here c.args.w.lo c.args.w.hi) (sym c.in-Two.ensures) ∙ paired_reads (λ _. 1) (c.args.w.hi + 1 - c.args.w.lo) c.in-Two.pairing (formula_view c.in-Two.left.now) (formula_view c.in-Two.right.now)) c.in_ok-left-in-Two.ensures.most c.in_ok-right-in-Two.ensures.most
-
-pub ticks_of-returns-in_ok-made-in-Two-clause-least : goal.ticks_of-returns-in_ok-made-in-Two-clause-least
-ticks_of-returns-in_ok-made-in-Two-clause-least g t c = at_most_in_turn _ _ _ c.in_ok-left-in-Two.ensures.least c.in_ok-right-in-Two.ensures.least
-
-pub ticks_of-returns-in_ok-made-in-Two-clause-most : goal.ticks_of-returns-in_ok-made-in-Two-clause-most
-ticks_of-returns-in_ok-made-in-Two-clause-most g t c =
-    most_both _ _ _ (reads_here c.args.w.lo c.args.w.hi (formula_view c.args.f.now)) (reads_here c.args.w.lo c.args.w.hi (formula_view c.in-Two.left.now)) (reads_here c.args.w.lo c.args.w.hi (formula_view c.in-Two.right.now)) (ap (reads_here c.args.w.lo c.args.w.hi) (sym c.in-Two.ensures) ∙ paired_reads (λ _. 1) (c.args.w.hi + 1 - c.args.w.lo) c.in-Two.pairing (formula_view c.in-Two.left.now) (formula_view c.in-Two.right.now)) c.in_ok-left-in-Two.ensures.most c.in_ok-right-in-Two.ensures.most
+pub ticks_of-returns-in_ok-made-in-Two-clause-reads : goal.ticks_of-returns-in_ok-made-in-Two-clause-reads
+ticks_of-returns-in_ok-made-in-Two-clause-reads g t c = record {
+  least = at_most_in_turn _ _ _ c.in_ok-left-in-Two.ensures.reads.least c.in_ok-right-in-Two.ensures.reads.least;
+  most = most_both _ _ _ (reads_here c.args.w.lo c.args.w.hi (formula_view c.args.f.now)) (reads_here c.args.w.lo c.args.w.hi (formula_view c.in-Two.left.now)) (reads_here c.args.w.lo c.args.w.hi (formula_view c.in-Two.right.now)) (ap (reads_here c.args.w.lo c.args.w.hi) (sym c.in-Two.ensures) ∙ paired_reads (λ _. 1) (c.args.w.hi + 1 - c.args.w.lo) c.in-Two.pairing (formula_view c.in-Two.left.now) (formula_view c.in-Two.right.now)) c.in_ok-left-in-Two.ensures.reads.most c.in_ok-right-in-Two.ensures.reads.most;
+}
 
 pub ticks_of-ticks_of_assignment-requires : goal.ticks_of-ticks_of_assignment-requires
 ticks_of-ticks_of_assignment-requires g t c κs lives =
@@ -152,28 +143,26 @@ pub ticks_of-returns-in_ok-made-in-Assign-clause-ticks : goal.ticks_of-returns-i
 ticks_of-returns-in_ok-made-in-Assign-clause-ticks g t c =
     subst (λ (z : ResolvedTree). AreTicksOf g.S.TickSet.member (g.I.Interpreter.interpretation c.args.source.now (slice_index c.args.binding.now)) c.args.w.lo c.args.w.hi z c.args.env.now c.in_ok-made-in-Assign.made) c.in-Assign.ensures c.in_ok-made-in-Assign.ensures.ticks
 
-pub ticks_of-returns-in_err-made-in-Assign-clause-least : goal.ticks_of-returns-in_err-made-in-Assign-clause-least
-ticks_of-returns-in_err-made-in-Assign-clause-least g t c = c.in_err-made-in-Assign.ensures.least
+pub ticks_of-returns-in_err-made-in-Assign-clause-reads : goal.ticks_of-returns-in_err-made-in-Assign-clause-reads
+ticks_of-returns-in_err-made-in-Assign-clause-reads g t c = record {
+  least = c.in_err-made-in-Assign.ensures.reads.least;
+  most = subst (λ (z : ResolvedTree). c.ticks_of_assignment.new.reads ≤ c.args.reads.now + reads_here c.args.w.lo c.args.w.hi z) c.in-Assign.ensures c.in_err-made-in-Assign.ensures.reads.most;
+}
 
-pub ticks_of-returns-in_err-made-in-Assign-clause-most : goal.ticks_of-returns-in_err-made-in-Assign-clause-most
-ticks_of-returns-in_err-made-in-Assign-clause-most g t c =
-    subst (λ (z : ResolvedTree). c.ticks_of_assignment.new.reads ≤ c.args.reads.now + reads_here c.args.w.lo c.args.w.hi z) c.in-Assign.ensures c.in_err-made-in-Assign.ensures.most
-
-pub ticks_of-returns-in_ok-made-in-Assign-clause-least : goal.ticks_of-returns-in_ok-made-in-Assign-clause-least
-ticks_of-returns-in_ok-made-in-Assign-clause-least g t c = c.in_ok-made-in-Assign.ensures.least
-
-pub ticks_of-returns-in_ok-made-in-Assign-clause-most : goal.ticks_of-returns-in_ok-made-in-Assign-clause-most
-ticks_of-returns-in_ok-made-in-Assign-clause-most g t c =
-    subst (λ (z : ResolvedTree). c.ticks_of_assignment.new.reads ≤ c.args.reads.now + reads_here c.args.w.lo c.args.w.hi z) c.in-Assign.ensures c.in_ok-made-in-Assign.ensures.most
+pub ticks_of-returns-in_ok-made-in-Assign-clause-reads : goal.ticks_of-returns-in_ok-made-in-Assign-clause-reads
+ticks_of-returns-in_ok-made-in-Assign-clause-reads g t c = record {
+  least = c.in_ok-made-in-Assign.ensures.reads.least;
+  most = subst (λ (z : ResolvedTree). c.ticks_of_assignment.new.reads ≤ c.args.reads.now + reads_here c.args.w.lo c.args.w.hi z) c.in-Assign.ensures c.in_ok-made-in-Assign.ensures.reads.most;
+}
 
 pub ticks_of_assignment-stretches_of-requires : goal.ticks_of_assignment-stretches_of-requires
 ticks_of_assignment-stretches_of-requires g t c = c.requires.0
 
-pub ticks_of_assignment-returns-in_err-runs-clause-least : goal.ticks_of_assignment-returns-in_err-runs-clause-least
-ticks_of_assignment-returns-in_err-runs-clause-least g t c = c.in_err-runs.ensures.least
-
-pub ticks_of_assignment-returns-in_err-runs-clause-most : goal.ticks_of_assignment-returns-in_err-runs-clause-most
-ticks_of_assignment-returns-in_err-runs-clause-most g t c = term_here c.args.w.lo c.args.w.hi c.args.a.now.depth c.args.a.now.term.now (formula_view c.args.a.now.body.now) _ _ c.in_err-runs.ensures.most
+pub ticks_of_assignment-returns-in_err-runs-clause-reads : goal.ticks_of_assignment-returns-in_err-runs-clause-reads
+ticks_of_assignment-returns-in_err-runs-clause-reads g t c = record {
+  least = c.in_err-runs.ensures.reads.least;
+  most = term_here c.args.w.lo c.args.w.hi c.args.a.now.depth c.args.a.now.term.now (formula_view c.args.a.now.body.now) _ _ c.in_err-runs.ensures.reads.most;
+}
 
 pub ticks_of_assignment-each-init : goal.ticks_of_assignment-each-init
 ticks_of_assignment-each-init g t c = record {
@@ -201,39 +190,35 @@ ticks_of_assignment-ticks_of_section-requires g t c κs lives = (
   ),
 )
 
-pub ticks_of_assignment-returns-in_err-part-clause-least : goal.ticks_of_assignment-returns-in_err-part-clause-least
-ticks_of_assignment-returns-in_err-part-clause-least g t c = at_most_in_turn _ _ _ c.in_ok-runs.ensures.least (at_most_in_turn _ _ _ c.each.invariant.least c.in_err-part.ensures.least)
+pub ticks_of_assignment-returns-in_err-part-clause-reads : goal.ticks_of_assignment-returns-in_err-part-clause-reads
+ticks_of_assignment-returns-in_err-part-clause-reads g t c = record {
+  least = at_most_in_turn _ _ _ c.in_ok-runs.ensures.reads.least (at_most_in_turn _ _ _ c.each.invariant.least c.in_err-part.ensures.reads.least);
+  most = (let few : length c.deref-run-items.result.now ≤ c.args.w.hi + 1 - c.args.w.lo = subst (λ (rs : List ValueRun). length rs ≤ c.args.w.hi + 1 - c.args.w.lo) (sym c.deref-run-items.ensures.value) c.in_ok-runs.ensures.runs.few in
+      runs_here c.args.w.lo c.args.w.hi c.args.a.now.depth c.args.a.now.term.now (formula_view c.args.a.now.body.now) _ _ _ (c.each.run-index + 1) c.in_ok-runs.ensures.reads.most (omega (arith, c.each-test.true, few))
+      (one_step _ c.each.reads _ c.each.run-index (reads_here c.args.w.lo c.args.w.hi (formula_view c.args.a.now.body.now)) c.each.invariant.most c.in_err-part.ensures.reads.most));
+}
 
-pub ticks_of_assignment-returns-in_err-part-clause-most : goal.ticks_of_assignment-returns-in_err-part-clause-most
-ticks_of_assignment-returns-in_err-part-clause-most g t c =
-    let few : length c.deref-run-items.result.now ≤ c.args.w.hi + 1 - c.args.w.lo = subst (λ (rs : List ValueRun). length rs ≤ c.args.w.hi + 1 - c.args.w.lo) (sym c.deref-run-items.ensures.value) c.in_ok-runs.ensures.runs.few in
-    runs_here c.args.w.lo c.args.w.hi c.args.a.now.depth c.args.a.now.term.now (formula_view c.args.a.now.body.now) _ _ _ (c.each.run-index + 1) c.in_ok-runs.ensures.most (omega (arith, c.each-test.true, few))
-    (one_step _ c.each.reads _ c.each.run-index (reads_here c.args.w.lo c.args.w.hi (formula_view c.args.a.now.body.now)) c.each.invariant.most c.in_err-part.ensures.most)
+pub ticks_of_assignment-returns-in_err-push_back-clause-reads : goal.ticks_of_assignment-returns-in_err-push_back-clause-reads
+ticks_of_assignment-returns-in_err-push_back-clause-reads g t c = record {
+  least = at_most_in_turn _ _ _ c.in_ok-runs.ensures.reads.least (at_most_in_turn _ _ _ c.each.invariant.least c.in_ok-part.ensures.reads.least);
+  most = (let few : length c.deref-run-items.result.now ≤ c.args.w.hi + 1 - c.args.w.lo = subst (λ (rs : List ValueRun). length rs ≤ c.args.w.hi + 1 - c.args.w.lo) (sym c.deref-run-items.ensures.value) c.in_ok-runs.ensures.runs.few in
+      runs_here c.args.w.lo c.args.w.hi c.args.a.now.depth c.args.a.now.term.now (formula_view c.args.a.now.body.now) _ _ _ (c.each.run-index + 1) c.in_ok-runs.ensures.reads.most (omega (arith, c.each-test.true, few))
+      (one_step _ c.each.reads _ c.each.run-index (reads_here c.args.w.lo c.args.w.hi (formula_view c.args.a.now.body.now)) c.each.invariant.most c.in_ok-part.ensures.reads.most));
+}
 
-pub ticks_of_assignment-returns-in_err-push_back-clause-least : goal.ticks_of_assignment-returns-in_err-push_back-clause-least
-ticks_of_assignment-returns-in_err-push_back-clause-least g t c = at_most_in_turn _ _ _ c.in_ok-runs.ensures.least (at_most_in_turn _ _ _ c.each.invariant.least c.in_ok-part.ensures.least)
+pub ticks_of_assignment-returns-in_err-made-clause-reads : goal.ticks_of_assignment-returns-in_err-made-clause-reads
+ticks_of_assignment-returns-in_err-made-clause-reads g t c = record {
+  least = at_most_in_turn _ _ _ c.in_ok-runs.ensures.reads.least c.each.invariant.least;
+  most = (let few : length c.deref-run-items.result.now ≤ c.args.w.hi + 1 - c.args.w.lo = subst (λ (rs : List ValueRun). length rs ≤ c.args.w.hi + 1 - c.args.w.lo) (sym c.deref-run-items.ensures.value) c.in_ok-runs.ensures.runs.few in
+      runs_here c.args.w.lo c.args.w.hi c.args.a.now.depth c.args.a.now.term.now (formula_view c.args.a.now.body.now) _ _ _ c.each.run-index c.in_ok-runs.ensures.reads.most (let l : c.each.run-index ≤ length c.deref-run-items.result.now = c.each.auto.run-index-end in omega (arith, l, few)) c.each.invariant.most);
+}
 
-pub ticks_of_assignment-returns-in_err-push_back-clause-most : goal.ticks_of_assignment-returns-in_err-push_back-clause-most
-ticks_of_assignment-returns-in_err-push_back-clause-most g t c =
-    let few : length c.deref-run-items.result.now ≤ c.args.w.hi + 1 - c.args.w.lo = subst (λ (rs : List ValueRun). length rs ≤ c.args.w.hi + 1 - c.args.w.lo) (sym c.deref-run-items.ensures.value) c.in_ok-runs.ensures.runs.few in
-    runs_here c.args.w.lo c.args.w.hi c.args.a.now.depth c.args.a.now.term.now (formula_view c.args.a.now.body.now) _ _ _ (c.each.run-index + 1) c.in_ok-runs.ensures.most (omega (arith, c.each-test.true, few))
-    (one_step _ c.each.reads _ c.each.run-index (reads_here c.args.w.lo c.args.w.hi (formula_view c.args.a.now.body.now)) c.each.invariant.most c.in_ok-part.ensures.most)
-
-pub ticks_of_assignment-returns-in_err-made-clause-least : goal.ticks_of_assignment-returns-in_err-made-clause-least
-ticks_of_assignment-returns-in_err-made-clause-least g t c = at_most_in_turn _ _ _ c.in_ok-runs.ensures.least c.each.invariant.least
-
-pub ticks_of_assignment-returns-in_err-made-clause-most : goal.ticks_of_assignment-returns-in_err-made-clause-most
-ticks_of_assignment-returns-in_err-made-clause-most g t c =
-    let few : length c.deref-run-items.result.now ≤ c.args.w.hi + 1 - c.args.w.lo = subst (λ (rs : List ValueRun). length rs ≤ c.args.w.hi + 1 - c.args.w.lo) (sym c.deref-run-items.ensures.value) c.in_ok-runs.ensures.runs.few in
-    runs_here c.args.w.lo c.args.w.hi c.args.a.now.depth c.args.a.now.term.now (formula_view c.args.a.now.body.now) _ _ _ c.each.run-index c.in_ok-runs.ensures.most (let l : c.each.run-index ≤ length c.deref-run-items.result.now = c.each.auto.run-index-end in omega (arith, l, few)) c.each.invariant.most
-
-pub ticks_of_assignment-returns-clause-least : goal.ticks_of_assignment-returns-clause-least
-ticks_of_assignment-returns-clause-least g t c = at_most_in_turn _ _ _ c.in_ok-runs.ensures.least c.each.invariant.least
-
-pub ticks_of_assignment-returns-clause-most : goal.ticks_of_assignment-returns-clause-most
-ticks_of_assignment-returns-clause-most g t c =
-    let few : length c.deref-run-items.result.now ≤ c.args.w.hi + 1 - c.args.w.lo = subst (λ (rs : List ValueRun). length rs ≤ c.args.w.hi + 1 - c.args.w.lo) (sym c.deref-run-items.ensures.value) c.in_ok-runs.ensures.runs.few in
-    runs_here c.args.w.lo c.args.w.hi c.args.a.now.depth c.args.a.now.term.now (formula_view c.args.a.now.body.now) _ _ _ c.each.run-index c.in_ok-runs.ensures.most (let l : c.each.run-index ≤ length c.deref-run-items.result.now = c.each.auto.run-index-end in omega (arith, l, few)) c.each.invariant.most
+pub ticks_of_assignment-returns-clause-reads : goal.ticks_of_assignment-returns-clause-reads
+ticks_of_assignment-returns-clause-reads g t c = record {
+  least = at_most_in_turn _ _ _ c.in_ok-runs.ensures.reads.least c.each.invariant.least;
+  most = (let few : length c.deref-run-items.result.now ≤ c.args.w.hi + 1 - c.args.w.lo = subst (λ (rs : List ValueRun). length rs ≤ c.args.w.hi + 1 - c.args.w.lo) (sym c.deref-run-items.ensures.value) c.in_ok-runs.ensures.runs.few in
+      runs_here c.args.w.lo c.args.w.hi c.args.a.now.depth c.args.a.now.term.now (formula_view c.args.a.now.body.now) _ _ _ c.each.run-index c.in_ok-runs.ensures.reads.most (let l : c.each.run-index ≤ length c.deref-run-items.result.now = c.each.auto.run-index-end in omega (arith, l, few)) c.each.invariant.most);
+}
 
 pub ticks_of_assignment-each-preserved : goal.ticks_of_assignment-each-preserved
 ticks_of_assignment-each-preserved g t c =
@@ -247,8 +232,8 @@ ticks_of_assignment-each-preserved g t c =
           (omega (arith, c.each-test.true)) c.run-item.is own.0 own.1 c.each.invariant.ticks
           (λ r. c.in_ok-part.ensures.ticks r ∙ ap (λ (x : Env). within c.run-item.result.span.lo c.run-item.result.span.hi r && sat (g.I.Interpreter.interpretation c.args.source.now (slice_index c.args.binding.now)) (formula_view c.args.a.now.body.now) x c.args.w.hi r) c.with-bound.ensures)
           u;
-      least = at_most_in_turn _ _ _ c.each.invariant.least c.in_ok-part.ensures.least;
-      most = one_step _ c.each.reads _ c.each.run-index (reads_here c.args.w.lo c.args.w.hi (formula_view c.args.a.now.body.now)) c.each.invariant.most c.in_ok-part.ensures.most;
+      least = at_most_in_turn _ _ _ c.each.invariant.least c.in_ok-part.ensures.reads.least;
+      most = one_step _ c.each.reads _ c.each.run-index (reads_here c.args.w.lo c.args.w.hi (formula_view c.args.a.now.body.now)) c.each.invariant.most c.in_ok-part.ensures.reads.most;
     }
 
 pub ticks_of_assignment-returns-clause-ticks : goal.ticks_of_assignment-returns-clause-ticks
@@ -294,23 +279,23 @@ ticks_of_section-ticks_of-requires g t c κs lives = (
   ),
 )
 
-pub ticks_of_section-returns-in_err-ticks-clause-least : goal.ticks_of_section-returns-in_err-ticks-clause-least
-ticks_of_section-returns-in_err-ticks-clause-least g t c = c.in_err-ticks.ensures.least
+pub ticks_of_section-returns-in_err-ticks-clause-reads : goal.ticks_of_section-returns-in_err-ticks-clause-reads
+ticks_of_section-returns-in_err-ticks-clause-reads g t c = record {
+  least = c.in_err-ticks.ensures.reads.least;
+  most = most_seen _ _ _ _ (section_reads (λ _. 1) (formula_view c.args.f.now) c.args.section.window.lo c.args.section.window.hi c.args.section.span.lo c.args.section.span.hi c.seen_by-w.result.lo c.seen_by-w.result.hi c.args.section.begins c.args.section.ends c.seen_by-w.ensures.lo c.seen_by-w.ensures.hi) c.in_err-ticks.ensures.reads.most;
+}
 
-pub ticks_of_section-returns-in_err-ticks-clause-most : goal.ticks_of_section-returns-in_err-ticks-clause-most
-ticks_of_section-returns-in_err-ticks-clause-most g t c = most_seen _ _ _ _ (section_reads (λ _. 1) (formula_view c.args.f.now) c.args.section.window.lo c.args.section.window.hi c.args.section.span.lo c.args.section.span.hi c.seen_by-w.result.lo c.seen_by-w.result.hi c.args.section.begins c.args.section.ends c.seen_by-w.ensures.lo c.seen_by-w.ensures.hi) c.in_err-ticks.ensures.most
+pub ticks_of_section-returns-in_err-made-clause-reads : goal.ticks_of_section-returns-in_err-made-clause-reads
+ticks_of_section-returns-in_err-made-clause-reads g t c = record {
+  least = c.in_ok-ticks.ensures.reads.least;
+  most = most_seen _ _ _ _ (section_reads (λ _. 1) (formula_view c.args.f.now) c.args.section.window.lo c.args.section.window.hi c.args.section.span.lo c.args.section.span.hi c.seen_by-w.result.lo c.seen_by-w.result.hi c.args.section.begins c.args.section.ends c.seen_by-w.ensures.lo c.seen_by-w.ensures.hi) c.in_ok-ticks.ensures.reads.most;
+}
 
-pub ticks_of_section-returns-in_err-made-clause-least : goal.ticks_of_section-returns-in_err-made-clause-least
-ticks_of_section-returns-in_err-made-clause-least g t c = c.in_ok-ticks.ensures.least
-
-pub ticks_of_section-returns-in_err-made-clause-most : goal.ticks_of_section-returns-in_err-made-clause-most
-ticks_of_section-returns-in_err-made-clause-most g t c = most_seen _ _ _ _ (section_reads (λ _. 1) (formula_view c.args.f.now) c.args.section.window.lo c.args.section.window.hi c.args.section.span.lo c.args.section.span.hi c.seen_by-w.result.lo c.seen_by-w.result.hi c.args.section.begins c.args.section.ends c.seen_by-w.ensures.lo c.seen_by-w.ensures.hi) c.in_ok-ticks.ensures.most
-
-pub ticks_of_section-returns-clause-least : goal.ticks_of_section-returns-clause-least
-ticks_of_section-returns-clause-least g t c = c.in_ok-ticks.ensures.least
-
-pub ticks_of_section-returns-clause-most : goal.ticks_of_section-returns-clause-most
-ticks_of_section-returns-clause-most g t c = most_seen _ _ _ _ (section_reads (λ _. 1) (formula_view c.args.f.now) c.args.section.window.lo c.args.section.window.hi c.args.section.span.lo c.args.section.span.hi c.seen_by-w.result.lo c.seen_by-w.result.hi c.args.section.begins c.args.section.ends c.seen_by-w.ensures.lo c.seen_by-w.ensures.hi) c.in_ok-ticks.ensures.most
+pub ticks_of_section-returns-clause-reads : goal.ticks_of_section-returns-clause-reads
+ticks_of_section-returns-clause-reads g t c = record {
+  least = c.in_ok-ticks.ensures.reads.least;
+  most = most_seen _ _ _ _ (section_reads (λ _. 1) (formula_view c.args.f.now) c.args.section.window.lo c.args.section.window.hi c.args.section.span.lo c.args.section.span.hi c.seen_by-w.result.lo c.seen_by-w.result.hi c.args.section.begins c.args.section.ends c.seen_by-w.ensures.lo c.seen_by-w.ensures.hi) c.in_ok-ticks.ensures.reads.most;
+}
 
 pub ticks_of_section-returns-clause-ticks : goal.ticks_of_section-returns-clause-ticks
 ticks_of_section-returns-clause-ticks g t c = λ u.

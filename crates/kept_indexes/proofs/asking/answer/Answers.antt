@@ -12,12 +12,14 @@ returns-in_err-rows-clause-right g c =
     lacks_by c.args.journal.now c.args.database.now c.args.kept.now c.store-store.result.now c.store-store.ensures c.requires.keeps c.requires.right
     c.range_rows.new.self c.range_rows.ensures.grid c.range_rows.ensures.right c.in_err-rows.ensures.err
 
-pub returns-in_err-rows-clause-most : goal.returns-in_err-rows-clause-most
-returns-in_err-rows-clause-most g c =
-    looks_by c.args.journal.now c.args.database.now c.args.kept.now c.store-store.result.now c.store-store.ensures c.requires.keeps c.requires.right
-    c.args.range.now.span c.args.range.now.least c.args.range.now.greatest _ _ _ _
-    (c.window_of-window.ensures.ticks.0 ∙ c.clock.ensures) (c.window_of-window.ensures.ticks.1 ∙ ap (λ n. n + c.args.range.now.span) c.clock.ensures)
-    c.requires.begun c.range_rows.ensures.most
+pub returns-in_err-rows-clause-reads : goal.returns-in_err-rows-clause-reads
+returns-in_err-rows-clause-reads g c = record {
+  least = omega arith;
+  most = (looks_by c.args.journal.now c.args.database.now c.args.kept.now c.store-store.result.now c.store-store.ensures c.requires.keeps c.requires.right
+      c.args.range.now.span c.args.range.now.least c.args.range.now.greatest _ _ _ _
+      (c.window_of-window.ensures.ticks.0 ∙ c.clock.ensures) (c.window_of-window.ensures.ticks.1 ∙ ap (λ n. n + c.args.range.now.span) c.clock.ensures)
+      c.requires.begun c.range_rows.ensures.reads.most);
+}
 
 pub push_rows-requires : goal.push_rows-requires
 push_rows-requires g c =
@@ -33,24 +35,28 @@ returns-in_err-push_rows-clause-right g c =
     answers_by c.args.journal.now c.args.database.now c.args.kept.now c.store-store.result.now c.store-store.ensures c.requires.keeps c.requires.right
     c.range_rows.new.self c.args.kept.now.seen c.range_rows.ensures.grid c.requires.right.seen c.range_rows.ensures.right c.in_ok-rows.ensures.fresh
 
-pub returns-in_err-push_rows-clause-most : goal.returns-in_err-push_rows-clause-most
-returns-in_err-push_rows-clause-most g c =
-    looks_by c.args.journal.now c.args.database.now c.args.kept.now c.store-store.result.now c.store-store.ensures c.requires.keeps c.requires.right
-    c.args.range.now.span c.args.range.now.least c.args.range.now.greatest _ _ _ _
-    (c.window_of-window.ensures.ticks.0 ∙ c.clock.ensures) (c.window_of-window.ensures.ticks.1 ∙ ap (λ n. n + c.args.range.now.span) c.clock.ensures)
-    c.requires.begun c.range_rows.ensures.most
+pub returns-in_err-push_rows-clause-reads : goal.returns-in_err-push_rows-clause-reads
+returns-in_err-push_rows-clause-reads g c = record {
+  least = omega arith;
+  most = (looks_by c.args.journal.now c.args.database.now c.args.kept.now c.store-store.result.now c.store-store.ensures c.requires.keeps c.requires.right
+      c.args.range.now.span c.args.range.now.least c.args.range.now.greatest _ _ _ _
+      (c.window_of-window.ensures.ticks.0 ∙ c.clock.ensures) (c.window_of-window.ensures.ticks.1 ∙ ap (λ n. n + c.args.range.now.span) c.clock.ensures)
+      c.requires.begun c.range_rows.ensures.reads.most);
+}
 
 pub returns-in_err-make_room-clause-right : goal.returns-in_err-make_room-clause-right
 returns-in_err-make_room-clause-right g c =
     answers_by c.args.journal.now c.args.database.now c.args.kept.now c.store-store.result.now c.store-store.ensures c.requires.keeps c.requires.right
     c.range_rows.new.self c.args.kept.now.seen c.range_rows.ensures.grid c.requires.right.seen c.range_rows.ensures.right c.in_ok-rows.ensures.fresh
 
-pub returns-in_err-make_room-clause-most : goal.returns-in_err-make_room-clause-most
-returns-in_err-make_room-clause-most g c =
-    looks_by c.args.journal.now c.args.database.now c.args.kept.now c.store-store.result.now c.store-store.ensures c.requires.keeps c.requires.right
-    c.args.range.now.span c.args.range.now.least c.args.range.now.greatest _ _ _ _
-    (c.window_of-window.ensures.ticks.0 ∙ c.clock.ensures) (c.window_of-window.ensures.ticks.1 ∙ ap (λ n. n + c.args.range.now.span) c.clock.ensures)
-    c.requires.begun c.range_rows.ensures.most
+pub returns-in_err-make_room-clause-reads : goal.returns-in_err-make_room-clause-reads
+returns-in_err-make_room-clause-reads g c = record {
+  least = omega arith;
+  most = (looks_by c.args.journal.now c.args.database.now c.args.kept.now c.store-store.result.now c.store-store.ensures c.requires.keeps c.requires.right
+      c.args.range.now.span c.args.range.now.least c.args.range.now.greatest _ _ _ _
+      (c.window_of-window.ensures.ticks.0 ∙ c.clock.ensures) (c.window_of-window.ensures.ticks.1 ∙ ap (λ n. n + c.args.range.now.span) c.clock.ensures)
+      c.requires.begun c.range_rows.ensures.reads.most);
+}
 
 pub returns-clause-right : goal.returns-clause-right
 returns-clause-right g c =
@@ -69,9 +75,11 @@ returns-clause-rows g c =
     (ap told_range_rows c.deref.ensures.value ∙ c.in_ok-rows.ensures.rows))
     (c.make_room.ensures.same ∙ c.in_ok-push_rows.ensures.ok)
 
-pub returns-clause-most : goal.returns-clause-most
-returns-clause-most g c =
-    looks_by c.args.journal.now c.args.database.now c.args.kept.now c.store-store.result.now c.store-store.ensures c.requires.keeps c.requires.right
-    c.args.range.now.span c.args.range.now.least c.args.range.now.greatest _ _ _ _
-    (c.window_of-window.ensures.ticks.0 ∙ c.clock.ensures) (c.window_of-window.ensures.ticks.1 ∙ ap (λ n. n + c.args.range.now.span) c.clock.ensures)
-    c.requires.begun c.range_rows.ensures.most
+pub returns-clause-reads : goal.returns-clause-reads
+returns-clause-reads g c = record {
+  least = omega arith;
+  most = (looks_by c.args.journal.now c.args.database.now c.args.kept.now c.store-store.result.now c.store-store.ensures c.requires.keeps c.requires.right
+      c.args.range.now.span c.args.range.now.least c.args.range.now.greatest _ _ _ _
+      (c.window_of-window.ensures.ticks.0 ∙ c.clock.ensures) (c.window_of-window.ensures.ticks.1 ∙ ap (λ n. n + c.args.range.now.span) c.clock.ensures)
+      c.requires.begun c.range_rows.ensures.reads.most);
+}

@@ -1,4 +1,4 @@
-use Rattle.std.proofs.Common.{◌+◌, ◌-◌, sym, subst}
+use Rattle.std.proofs.Common.{◌+◌, ◌-◌, sym, subst, arith}
 use Rattle.formula.specs.Tree.{resolved_view}
 use Rattle.kept_rows.specs.Rows.{row_has}
 use Rattle.tick_set.specs.Runs.{spans_have}
@@ -30,17 +30,23 @@ returns-clause-rows g c =
     c.in_ok-domains.domains c.in_ok-full.full (row_has spans_have c.in_ok-rows.rows)
     c.requires.resolved c.requires.columns c.in_ok-domains.ensures c.in_ok-full.ensures.rows c.in_ok-rows.ensures.rows
 
-pub returns-in_err-full-clause-most : goal.returns-in_err-full-clause-most
-returns-in_err-full-clause-most g c =
-    most_within _ _ _ _ c.in_err-full.ensures.most
-    (reads_within (catalog_of c.args.world.now.store.now) (resolved_view c.args.query.now) _ (c.args.w.hi + 1 - c.args.w.lo) c.in_ok-domains.ensures)
+pub returns-in_err-full-clause-reads : goal.returns-in_err-full-clause-reads
+returns-in_err-full-clause-reads g c = record {
+  least = omega arith;
+  most = (most_within _ _ _ _ c.in_err-full.ensures.reads.most
+      (reads_within (catalog_of c.args.world.now.store.now) (resolved_view c.args.query.now) _ (c.args.w.hi + 1 - c.args.w.lo) c.in_ok-domains.ensures));
+}
 
-pub returns-in_err-rows-clause-most : goal.returns-in_err-rows-clause-most
-returns-in_err-rows-clause-most g c =
-    most_within _ _ _ _ c.in_ok-full.ensures.most
-    (reads_within (catalog_of c.args.world.now.store.now) (resolved_view c.args.query.now) _ (c.args.w.hi + 1 - c.args.w.lo) c.in_ok-domains.ensures)
+pub returns-in_err-rows-clause-reads : goal.returns-in_err-rows-clause-reads
+returns-in_err-rows-clause-reads g c = record {
+  least = omega arith;
+  most = (most_within _ _ _ _ c.in_ok-full.ensures.reads.most
+      (reads_within (catalog_of c.args.world.now.store.now) (resolved_view c.args.query.now) _ (c.args.w.hi + 1 - c.args.w.lo) c.in_ok-domains.ensures));
+}
 
-pub returns-clause-most : goal.returns-clause-most
-returns-clause-most g c =
-    most_within _ _ _ _ c.in_ok-full.ensures.most
-    (reads_within (catalog_of c.args.world.now.store.now) (resolved_view c.args.query.now) _ (c.args.w.hi + 1 - c.args.w.lo) c.in_ok-domains.ensures)
+pub returns-clause-reads : goal.returns-clause-reads
+returns-clause-reads g c = record {
+  least = omega arith;
+  most = (most_within _ _ _ _ c.in_ok-full.ensures.reads.most
+      (reads_within (catalog_of c.args.world.now.store.now) (resolved_view c.args.query.now) _ (c.args.w.hi + 1 - c.args.w.lo) c.in_ok-domains.ensures));
+}

@@ -1,4 +1,4 @@
-use Rattle.std.proofs.Common.{◌≡◌, ℕ, ◌+◌, ◌-◌, Bool, true, List, [], ◌∷◌, length, sym, ap, ◌∙◌, subst}
+use Rattle.std.proofs.Common.{◌≡◌, ℕ, ◌+◌, ◌-◌, Bool, true, List, [], ◌∷◌, length, sym, ap, ◌∙◌, subst, arith}
 use Rattle.std.specs.List.Sorted.{IsStrictlyIncreasing}
 use Rattle.std.proofs.lemmas.Bool.{and_parts}
 use Rattle.tick_set.specs.Runs.{spans_have}
@@ -17,7 +17,7 @@ use Rattle.live_queries.proofs.evaluating.new_row.Goals as goal
 
 pub evaluate_alone-requires-clause-object : goal.evaluate_alone-requires-clause-object
 evaluate_alone-requires-clause-object g c =
-    one_of_class c.args.judged.now.world.now.store.now (resolved_view c.args.judged.now.query.now) c.args.object.now.class c.args.object.now.id c.requires.class c.requires.alone c.requires.there
+    one_of_class c.args.judged.now.world.now.store.now (resolved_view c.args.judged.now.query.now) c.args.object.now.class c.args.object.now.id c.requires.object.class c.requires.alone c.requires.object.there
 
 pub numbers_with-numbers-requires-clause-room : goal.numbers_with-numbers-requires-clause-room
 numbers_with-numbers-requires-clause-room g c = λ e.
@@ -34,7 +34,7 @@ numbers_with-numbers-requires-clause-ascending g c =
 
 pub returns-clause-rows : goal.returns-clause-rows
 returns-clause-rows g c = λ ds made.
-    rows_are c.args.judged.now.world.now.store.now c.args.judged.now.world.now.regions.now (resolved_view c.args.judged.now.query.now) c.requires.resolved c.args.object.now.class c.args.object.now.id c.requires.class
+    rows_are c.args.judged.now.world.now.store.now c.args.judged.now.world.now.regions.now (resolved_view c.args.judged.now.query.now) c.requires.resolved c.args.object.now.class c.args.object.now.id c.requires.object.class
     c.args.judged.now.w.lo c.args.judged.now.w.hi c.args.judged.now.from c.args.grows (c.args.column.now ∷ []) c.from_ref.result.now
     (subst (AreVariablesWith c.args.grows c.args.object.now.class c.args.judged.now.query.now.classes c.args.object.now.id (c.args.column.now ∷ [])) (sym c.from_ref.ensures.value) (
       subst (λ (b : Bool). IsVariableWith b c.args.object.now.id c.args.column.now c.numbers_with-numbers.result)
@@ -48,17 +48,23 @@ returns-clause-rows g c = λ ds made.
     (same_order c.args.grows c.args.object.now.class c.args.judged.now.query.now.classes c.args.object.now.id (c.args.column.now ∷ []) ds made ∙ c.requires.order)
     c.args.object.now.id n holding) t)
 
-pub returns-in_err-ticks-clause-most : goal.returns-in_err-ticks-clause-most
-returns-in_err-ticks-clause-most g c =
-    most_within _ _ _ _ c.in_err-ticks.ensures.most
-    (one_within (catalog_of c.args.judged.now.world.now.store.now) (resolved_view c.args.judged.now.query.now) (c.args.judged.now.w.hi + 1 - c.args.judged.now.w.lo) c.args.object.now.class c.args.object.now.id c.requires.alone)
+pub returns-in_err-ticks-clause-reads : goal.returns-in_err-ticks-clause-reads
+returns-in_err-ticks-clause-reads g c = record {
+  least = omega arith;
+  most = (most_within _ _ _ _ c.in_err-ticks.ensures.reads.most
+      (one_within (catalog_of c.args.judged.now.world.now.store.now) (resolved_view c.args.judged.now.query.now) (c.args.judged.now.w.hi + 1 - c.args.judged.now.w.lo) c.args.object.now.class c.args.object.now.id c.requires.alone));
+}
 
-pub returns-in_err-changes-clause-most : goal.returns-in_err-changes-clause-most
-returns-in_err-changes-clause-most g c =
-    most_within _ _ _ _ c.in_ok-ticks.ensures.most
-    (one_within (catalog_of c.args.judged.now.world.now.store.now) (resolved_view c.args.judged.now.query.now) (c.args.judged.now.w.hi + 1 - c.args.judged.now.w.lo) c.args.object.now.class c.args.object.now.id c.requires.alone)
+pub returns-in_err-changes-clause-reads : goal.returns-in_err-changes-clause-reads
+returns-in_err-changes-clause-reads g c = record {
+  least = omega arith;
+  most = (most_within _ _ _ _ c.in_ok-ticks.ensures.reads.most
+      (one_within (catalog_of c.args.judged.now.world.now.store.now) (resolved_view c.args.judged.now.query.now) (c.args.judged.now.w.hi + 1 - c.args.judged.now.w.lo) c.args.object.now.class c.args.object.now.id c.requires.alone));
+}
 
-pub returns-clause-most : goal.returns-clause-most
-returns-clause-most g c =
-    most_within _ _ _ _ c.in_ok-ticks.ensures.most
-    (one_within (catalog_of c.args.judged.now.world.now.store.now) (resolved_view c.args.judged.now.query.now) (c.args.judged.now.w.hi + 1 - c.args.judged.now.w.lo) c.args.object.now.class c.args.object.now.id c.requires.alone)
+pub returns-clause-reads : goal.returns-clause-reads
+returns-clause-reads g c = record {
+  least = omega arith;
+  most = (most_within _ _ _ _ c.in_ok-ticks.ensures.reads.most
+      (one_within (catalog_of c.args.judged.now.world.now.store.now) (resolved_view c.args.judged.now.query.now) (c.args.judged.now.w.hi + 1 - c.args.judged.now.w.lo) c.args.object.now.class c.args.object.now.id c.requires.alone));
+}

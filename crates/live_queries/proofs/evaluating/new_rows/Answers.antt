@@ -1,4 +1,4 @@
-use Rattle.std.proofs.Common.{ℕ, ◌+◌, ◌-◌, ◌≤◌, List, length, sym, ap, ◌∙◌, subst}
+use Rattle.std.proofs.Common.{ℕ, ◌+◌, ◌-◌, ◌≤◌, List, length, sym, ap, ◌∙◌, subst, arith}
 use Rattle.std.specs.List.{flat_map}
 use Rattle.tick_set.specs.Runs.{spans_have}
 use Rattle.tick_set.specs.Ticks.{between}
@@ -22,8 +22,8 @@ singles-requires g c = subst (λ (ks : List ℕ). length ks ≤ OBJECT_LIMIT) (s
 
 pub parts_of-requires-clause-domains : goal.parts_of-requires-clause-domains
 parts_of-requires-clause-domains g c =
-    parts_are_of_classes c.args.judged.now.world.now.store.now c.args.judged.now.world.now.regions.now (resolved_view c.args.judged.now.query.now) c.requires.resolved c.args.object.now.class c.args.object.now.id c.requires.class
-    c.requires.there c.deref.result.now
+    parts_are_of_classes c.args.judged.now.world.now.store.now c.args.judged.now.world.now.regions.now (resolved_view c.args.judged.now.query.now) c.requires.resolved c.args.object.now.class c.args.object.now.id c.requires.object.class
+    c.requires.object.there c.deref.result.now
     (c.deref.ensures.value ∙ c.in_ok-singles.ensures
     ∙ ap (λ (ks : List ℕ). flat_map (single_for (catalog_of c.args.judged.now.world.now.store.now) ks c.args.object.now.class c.args.object.now.id) (between 0 (length ks))) c.items-classes.ensures)
 
@@ -55,7 +55,7 @@ returns-clause-rising g c =
 
 pub returns-clause-rows : goal.returns-clause-rows
 returns-clause-rows g c =
-    new_rows_are c.args.judged.now.world.now.store.now c.args.judged.now.world.now.regions.now (resolved_view c.args.judged.now.query.now) c.requires.resolved c.args.object.now.class c.args.object.now.id c.requires.class
+    new_rows_are c.args.judged.now.world.now.store.now c.args.judged.now.world.now.regions.now (resolved_view c.args.judged.now.query.now) c.requires.resolved c.args.object.now.class c.args.object.now.id c.requires.object.class
     c.args.judged.now.w.lo c.args.judged.now.w.hi c.args.judged.now.from c.args.grows c.args.columns.now c.requires.order c.requires.counted c.requires.objects c.deref.result.now
     (c.deref.ensures.value ∙ c.in_ok-singles.ensures
     ∙ ap (λ (ks : List ℕ). flat_map (single_for (catalog_of c.args.judged.now.world.now.store.now) ks c.args.object.now.class c.args.object.now.id) (between 0 (length ks))) c.items-classes.ensures)
@@ -67,30 +67,38 @@ returns-clause-rows g c =
     (subst (λ (ks : List ℕ). AreVariablesWith c.args.grows c.args.object.now.class ks c.args.object.now.id c.args.columns.now c.in_ok-numbers.numbers.items) c.items-classes.ensures c.in_ok-numbers.ensures))
     (row_has spans_have c.args.judged.now.rows.now) _ c.in_ok-changes.ensures.rows
 
-pub returns-in_err-parts-clause-most : goal.returns-in_err-parts-clause-most
-returns-in_err-parts-clause-most g c =
-    most_within _ _ _ _ c.in_err-parts.ensures.most
-    (parts_within (catalog_of c.args.judged.now.world.now.store.now) (resolved_view c.args.judged.now.query.now) (c.args.judged.now.w.hi + 1 - c.args.judged.now.w.lo) c.args.object.now.class c.args.object.now.id c.deref.result.now
-    (c.deref.ensures.value ∙ c.in_ok-singles.ensures
-    ∙ ap (λ (ks : List ℕ). flat_map (single_for (catalog_of c.args.judged.now.world.now.store.now) ks c.args.object.now.class c.args.object.now.id) (between 0 (length ks))) c.items-classes.ensures))
+pub returns-in_err-parts-clause-reads : goal.returns-in_err-parts-clause-reads
+returns-in_err-parts-clause-reads g c = record {
+  least = omega arith;
+  most = (most_within _ _ _ _ c.in_err-parts.ensures.reads.most
+      (parts_within (catalog_of c.args.judged.now.world.now.store.now) (resolved_view c.args.judged.now.query.now) (c.args.judged.now.w.hi + 1 - c.args.judged.now.w.lo) c.args.object.now.class c.args.object.now.id c.deref.result.now
+      (c.deref.ensures.value ∙ c.in_ok-singles.ensures
+      ∙ ap (λ (ks : List ℕ). flat_map (single_for (catalog_of c.args.judged.now.world.now.store.now) ks c.args.object.now.class c.args.object.now.id) (between 0 (length ks))) c.items-classes.ensures)));
+}
 
-pub returns-in_err-numbers-clause-most : goal.returns-in_err-numbers-clause-most
-returns-in_err-numbers-clause-most g c =
-    most_within _ _ _ _ c.in_ok-parts.ensures.most
-    (parts_within (catalog_of c.args.judged.now.world.now.store.now) (resolved_view c.args.judged.now.query.now) (c.args.judged.now.w.hi + 1 - c.args.judged.now.w.lo) c.args.object.now.class c.args.object.now.id c.deref.result.now
-    (c.deref.ensures.value ∙ c.in_ok-singles.ensures
-    ∙ ap (λ (ks : List ℕ). flat_map (single_for (catalog_of c.args.judged.now.world.now.store.now) ks c.args.object.now.class c.args.object.now.id) (between 0 (length ks))) c.items-classes.ensures))
+pub returns-in_err-numbers-clause-reads : goal.returns-in_err-numbers-clause-reads
+returns-in_err-numbers-clause-reads g c = record {
+  least = omega arith;
+  most = (most_within _ _ _ _ c.in_ok-parts.ensures.reads.most
+      (parts_within (catalog_of c.args.judged.now.world.now.store.now) (resolved_view c.args.judged.now.query.now) (c.args.judged.now.w.hi + 1 - c.args.judged.now.w.lo) c.args.object.now.class c.args.object.now.id c.deref.result.now
+      (c.deref.ensures.value ∙ c.in_ok-singles.ensures
+      ∙ ap (λ (ks : List ℕ). flat_map (single_for (catalog_of c.args.judged.now.world.now.store.now) ks c.args.object.now.class c.args.object.now.id) (between 0 (length ks))) c.items-classes.ensures)));
+}
 
-pub returns-in_err-changes-clause-most : goal.returns-in_err-changes-clause-most
-returns-in_err-changes-clause-most g c =
-    most_within _ _ _ _ c.in_ok-parts.ensures.most
-    (parts_within (catalog_of c.args.judged.now.world.now.store.now) (resolved_view c.args.judged.now.query.now) (c.args.judged.now.w.hi + 1 - c.args.judged.now.w.lo) c.args.object.now.class c.args.object.now.id c.deref.result.now
-    (c.deref.ensures.value ∙ c.in_ok-singles.ensures
-    ∙ ap (λ (ks : List ℕ). flat_map (single_for (catalog_of c.args.judged.now.world.now.store.now) ks c.args.object.now.class c.args.object.now.id) (between 0 (length ks))) c.items-classes.ensures))
+pub returns-in_err-changes-clause-reads : goal.returns-in_err-changes-clause-reads
+returns-in_err-changes-clause-reads g c = record {
+  least = omega arith;
+  most = (most_within _ _ _ _ c.in_ok-parts.ensures.reads.most
+      (parts_within (catalog_of c.args.judged.now.world.now.store.now) (resolved_view c.args.judged.now.query.now) (c.args.judged.now.w.hi + 1 - c.args.judged.now.w.lo) c.args.object.now.class c.args.object.now.id c.deref.result.now
+      (c.deref.ensures.value ∙ c.in_ok-singles.ensures
+      ∙ ap (λ (ks : List ℕ). flat_map (single_for (catalog_of c.args.judged.now.world.now.store.now) ks c.args.object.now.class c.args.object.now.id) (between 0 (length ks))) c.items-classes.ensures)));
+}
 
-pub returns-clause-most : goal.returns-clause-most
-returns-clause-most g c =
-    most_within _ _ _ _ c.in_ok-parts.ensures.most
-    (parts_within (catalog_of c.args.judged.now.world.now.store.now) (resolved_view c.args.judged.now.query.now) (c.args.judged.now.w.hi + 1 - c.args.judged.now.w.lo) c.args.object.now.class c.args.object.now.id c.deref.result.now
-    (c.deref.ensures.value ∙ c.in_ok-singles.ensures
-    ∙ ap (λ (ks : List ℕ). flat_map (single_for (catalog_of c.args.judged.now.world.now.store.now) ks c.args.object.now.class c.args.object.now.id) (between 0 (length ks))) c.items-classes.ensures))
+pub returns-clause-reads : goal.returns-clause-reads
+returns-clause-reads g c = record {
+  least = omega arith;
+  most = (most_within _ _ _ _ c.in_ok-parts.ensures.reads.most
+      (parts_within (catalog_of c.args.judged.now.world.now.store.now) (resolved_view c.args.judged.now.query.now) (c.args.judged.now.w.hi + 1 - c.args.judged.now.w.lo) c.args.object.now.class c.args.object.now.id c.deref.result.now
+      (c.deref.ensures.value ∙ c.in_ok-singles.ensures
+      ∙ ap (λ (ks : List ℕ). flat_map (single_for (catalog_of c.args.judged.now.world.now.store.now) ks c.args.object.now.class c.args.object.now.id) (between 0 (length ks))) c.items-classes.ensures)));
+}

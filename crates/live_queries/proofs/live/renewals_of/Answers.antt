@@ -68,10 +68,10 @@ queries-preserved g c = record {
   many = counts_go_on (ArePrepared c.args.class) c.args.queries.now c.queries.rest.now c.in-Some.later.now c.in-Some.query.now
       c.queries.renewals c.add_renewal.new.renewals c.in_ok-add_renewal.ensures.added.added (length c.args.queries.now) c.in-Some.ensures.cases.0 c.in_ok-add_renewal.ensures.added.list
       c.queries.invariant.many;
-  least = omega (arith, c.queries.invariant.least, c.in_ok-add_renewal.ensures.least);
+  least = omega (arith, c.queries.invariant.least, c.in_ok-add_renewal.ensures.reads.least);
   most = looks_go_on (catalog_of c.args.world.now.store.now) c.args.now c.args.class c.queries.rest.now c.in-Some.later.now c.in-Some.query.now
       c.queries.reads c.add_renewal.new.reads _ c.in-Some.ensures.cases.0
-      (subst (λ (k : ℕ). c.add_renewal.new.reads ≤ c.queries.reads + judged_reads (catalog_of c.args.world.now.store.now) c.args.now k c.in-Some.query.now) c.written-object.ensures.class c.in_ok-add_renewal.ensures.most)
+      (subst (λ (k : ℕ). c.add_renewal.new.reads ≤ c.queries.reads + judged_reads (catalog_of c.args.world.now.store.now) c.args.now k c.in-Some.query.now) c.written-object.ensures.class c.in_ok-add_renewal.ensures.reads.most)
       c.queries.invariant.most;
   sight = subst (λ (i : ℕ). IsSightOf c.args.world.now.store.now i c.add_renewal.new.sight) c.written-object.ensures.id c.in_ok-add_renewal.ensures.sight;
 }
@@ -85,13 +85,17 @@ returns-clause-fresh g c =
     pairs_end (AreFreshFor (told_world c.args.world.now) c.args.id c.args.class c.args.now) c.args.queries.now
     c.queries.rest.now c.queries.renewals c.in_default.ensures.cases tt c.queries.invariant.fresh
 
-pub returns-clause-most : goal.returns-clause-most
-returns-clause-most g c =
-    looks_end (catalog_of c.args.world.now.store.now) c.args.now c.args.class c.queries.rest.now c.queries.reads _ c.queries.invariant.most
+pub returns-clause-reads : goal.returns-clause-reads
+returns-clause-reads g c = record {
+  least = omega arith;
+  most = looks_end (catalog_of c.args.world.now.store.now) c.args.now c.args.class c.queries.rest.now c.queries.reads _ c.queries.invariant.most;
+}
 
-pub returns-in_err-add_renewal-clause-most : goal.returns-in_err-add_renewal-clause-most
-returns-in_err-add_renewal-clause-most g c =
-    looks_stop (catalog_of c.args.world.now.store.now) c.args.now c.args.class c.queries.rest.now c.in-Some.later.now c.in-Some.query.now
-    c.queries.reads _ _ c.in-Some.ensures.cases.0
-    (subst (λ (k : ℕ). c.add_renewal.new.reads ≤ c.queries.reads + judged_reads (catalog_of c.args.world.now.store.now) c.args.now k c.in-Some.query.now) c.written-object.ensures.class c.in_err-add_renewal.ensures.most)
-    c.queries.invariant.most
+pub returns-in_err-add_renewal-clause-reads : goal.returns-in_err-add_renewal-clause-reads
+returns-in_err-add_renewal-clause-reads g c = record {
+  least = omega arith;
+  most = (looks_stop (catalog_of c.args.world.now.store.now) c.args.now c.args.class c.queries.rest.now c.in-Some.later.now c.in-Some.query.now
+      c.queries.reads _ _ c.in-Some.ensures.cases.0
+      (subst (λ (k : ℕ). c.add_renewal.new.reads ≤ c.queries.reads + judged_reads (catalog_of c.args.world.now.store.now) c.args.now k c.in-Some.query.now) c.written-object.ensures.class c.in_err-add_renewal.ensures.reads.most)
+      c.queries.invariant.most);
+}

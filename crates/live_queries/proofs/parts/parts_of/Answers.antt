@@ -38,9 +38,9 @@ singles-preserved g c =
           (record { variable = c.in-Some.single.now.variable; rows = c.in_ok-rows.rows })
           c.in-Some.ensures.cases.0 c.in_ok-push.ensures.items
           (λ more is. (record { variable = refl; rows = c.in_ok-rows.ensures.rows }, is)) c.singles.invariant.made;
-      least = omega (arith, c.singles.invariant.least, c.in_ok-rows.ensures.least);
+      least = omega (arith, c.singles.invariant.least, c.in_ok-rows.ensures.reads.least);
       most = sum_goes_on looks c.singles.rest.now c.in-Some.later.now c.in-Some.single.now c.singles.reads c.evaluate.new.reads _
-          c.in-Some.ensures.cases.0 c.in_ok-rows.ensures.most c.singles.invariant.most;
+          c.in-Some.ensures.cases.0 c.in_ok-rows.ensures.reads.most c.singles.invariant.most;
     }
 
 pub returns-clause-parts : goal.returns-clause-parts
@@ -48,17 +48,23 @@ returns-clause-parts g c =
     pairs_end (ArePartsOf (told_world c.args.world.now) (resolved_view c.args.query.now) c.args.w.lo c.args.w.hi)
     c.args.singles.now c.singles.rest.now c.singles.parts.items c.in_default.ensures.cases tt c.singles.invariant.made
 
-pub returns-clause-most : goal.returns-clause-most
-returns-clause-most g c =
-    sum_ends (λ (s : Single). query_reads (domain_size s.domains) (c.args.w.hi + 1 - c.args.w.lo) (resolved_view c.args.query.now))
-    c.singles.rest.now c.singles.reads _ c.singles.invariant.most
+pub returns-clause-reads : goal.returns-clause-reads
+returns-clause-reads g c = record {
+  least = omega arith;
+  most = (sum_ends (λ (s : Single). query_reads (domain_size s.domains) (c.args.w.hi + 1 - c.args.w.lo) (resolved_view c.args.query.now))
+      c.singles.rest.now c.singles.reads _ c.singles.invariant.most);
+}
 
-pub returns-in_err-rows-clause-most : goal.returns-in_err-rows-clause-most
-returns-in_err-rows-clause-most g c =
-    sum_stops (λ (s : Single). query_reads (domain_size s.domains) (c.args.w.hi + 1 - c.args.w.lo) (resolved_view c.args.query.now))
-    c.singles.rest.now c.in-Some.later.now c.in-Some.single.now c.singles.reads _ _ c.in-Some.ensures.cases.0 c.in_err-rows.ensures.most c.singles.invariant.most
+pub returns-in_err-rows-clause-reads : goal.returns-in_err-rows-clause-reads
+returns-in_err-rows-clause-reads g c = record {
+  least = omega arith;
+  most = (sum_stops (λ (s : Single). query_reads (domain_size s.domains) (c.args.w.hi + 1 - c.args.w.lo) (resolved_view c.args.query.now))
+      c.singles.rest.now c.in-Some.later.now c.in-Some.single.now c.singles.reads _ _ c.in-Some.ensures.cases.0 c.in_err-rows.ensures.reads.most c.singles.invariant.most);
+}
 
-pub returns-in_err-push-clause-most : goal.returns-in_err-push-clause-most
-returns-in_err-push-clause-most g c =
-    sum_stops (λ (s : Single). query_reads (domain_size s.domains) (c.args.w.hi + 1 - c.args.w.lo) (resolved_view c.args.query.now))
-    c.singles.rest.now c.in-Some.later.now c.in-Some.single.now c.singles.reads _ _ c.in-Some.ensures.cases.0 c.in_ok-rows.ensures.most c.singles.invariant.most
+pub returns-in_err-push-clause-reads : goal.returns-in_err-push-clause-reads
+returns-in_err-push-clause-reads g c = record {
+  least = omega arith;
+  most = (sum_stops (λ (s : Single). query_reads (domain_size s.domains) (c.args.w.hi + 1 - c.args.w.lo) (resolved_view c.args.query.now))
+      c.singles.rest.now c.in-Some.later.now c.in-Some.single.now c.singles.reads _ _ c.in-Some.ensures.cases.0 c.in_ok-rows.ensures.reads.most c.singles.invariant.most);
+}

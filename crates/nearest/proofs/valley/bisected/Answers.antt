@@ -21,5 +21,9 @@ halves-preserved c =
       rises = λ constant. rises_on c.args.rise.now.quadratic c.args.rise.now.linear constant _ c.args.last (omega (arith, ints, c.rise_at.ensures));
     }
 
-pub returns-clause-falls : goal.returns-clause-falls
-returns-clause-falls c = c.halves.invariant.falls
+pub returns : goal.returns
+returns c = record {
+  bound = grind arith;
+  falls = c.halves.invariant.falls;
+  rises = grind arith;
+}

@@ -42,6 +42,6 @@ others-preserved g c =
     record {
       rows = filled_next spans_have (holds_in c.args.scene.now) c.args.one.now.id (keys_of movers) i (m.id ∷ []) c.args.made.now c.others.made c.put_unless_apart.new.made k
           (key_at movers i m l c.other-item.is) c.others.invariant.rows c.in_ok-put_unless_apart.ensures.rows;
-      least = (let l = c.others.invariant.least in let m = c.in_ok-put_unless_apart.ensures.least in omega (arith, l, m));
-      most = each_twice c.args.reads.now c.others.reads c.put_unless_apart.new.reads i c.others.invariant.most c.in_ok-put_unless_apart.ensures.most;
+      least = (let l = c.others.invariant.least in let m = c.in_ok-put_unless_apart.ensures.reads.least in omega (arith, l, m));
+      most = each_twice c.args.reads.now c.others.reads c.put_unless_apart.new.reads i c.others.invariant.most c.in_ok-put_unless_apart.ensures.reads.most;
     }

@@ -57,18 +57,23 @@ put_near-requires-clause-above g c =
     (block_above spans_have (holds_in c.args.scene.now) (keys_of c.as_slice-others.result.now) c.of-id-items.result.now c.ids.id-index 0 c.empty-made.result c.ids.made
     (omega (arith, c.ids-test.true)) (ap (λ r. r.rows) c.empty-made.ensures) c.of-id-items.ensures.ascending c.ids.invariant.rows)
 
-pub returns-in_err-movers-clause-most : goal.returns-in_err-movers-clause-most
-returns-in_err-movers-clause-most g c = first_within c.args.d.now c.of.result.now c.of.ensures.value _ _ c.in_err-movers.ensures.most
+pub returns-in_err-movers-clause-reads : goal.returns-in_err-movers-clause-reads
+returns-in_err-movers-clause-reads g c = record {
+  least = omega arith;
+  most = first_within c.args.d.now c.of.result.now c.of.ensures.value _ _ c.in_err-movers.ensures.reads.most;
+}
 
-pub returns-in_err-put_near-clause-most : goal.returns-in_err-put_near-clause-most
-returns-in_err-put_near-clause-most g c =
-    let others = c.as_slice-others.result.now in
-    rounds_within c.args.d.now c.of-id-items.result.now c.of.result.now others c.of-id-items.ensures.value c.of.ensures.value
-    (ap (map (λ (m : Mover). m.id)) c.as_slice-others.ensures.value ∙ c.in_ok-movers.ensures.ids)
-    c.args.reads.now c.movers_of.new.reads c.put_near.new.reads (c.ids.id-index + 1) c.in_ok-movers.ensures.most
-    (one_round c.movers_of.new.reads c.ids.reads c.mover_of-one.new.reads c.put_near.new.reads c.ids.id-index (length others) c.ids.invariant.most c.mover_of-one.ensures.step
-    c.in_err-put_near.ensures.most)
-    (omega (arith, c.ids-test.true))
+pub returns-in_err-put_near-clause-reads : goal.returns-in_err-put_near-clause-reads
+returns-in_err-put_near-clause-reads g c = record {
+  least = omega arith;
+  most = (let others = c.as_slice-others.result.now in
+      rounds_within c.args.d.now c.of-id-items.result.now c.of.result.now others c.of-id-items.ensures.value c.of.ensures.value
+      (ap (map (λ (m : Mover). m.id)) c.as_slice-others.ensures.value ∙ c.in_ok-movers.ensures.ids)
+      c.args.reads.now c.movers_of.new.reads c.put_near.new.reads (c.ids.id-index + 1) c.in_ok-movers.ensures.reads.most
+      (one_round c.movers_of.new.reads c.ids.reads c.mover_of-one.new.reads c.put_near.new.reads c.ids.id-index (length others) c.ids.invariant.most c.mover_of-one.ensures.step
+      c.in_err-put_near.ensures.reads.most)
+      (omega (arith, c.ids-test.true)));
+}
 
 pub ids-preserved : goal.ids-preserved
 ids-preserved g c =
@@ -78,9 +83,9 @@ ids-preserved g c =
       rows = filled_block spans_have truth (keys_of others) c.of-id-items.result.now c.ids.id-index 0 c.empty-made.result c.ids.made c.put_near.new.made
           (omega (arith, c.ids-test.true)) c.ids.invariant.rows
           (subst (λ (id : ℕ). IsFilled spans_have truth (keys_behind id (keys_of others)) c.ids.made c.put_near.new.made) c.mover_of-one.ensures.id c.in_ok-put_near.ensures.rows);
-      least = (let l = c.ids.invariant.least in let m = c.mover_of-one.ensures.step in let n = c.in_ok-put_near.ensures.least in omega (arith, l, m, n));
+      least = (let l = c.ids.invariant.least in let m = c.mover_of-one.ensures.step in let n = c.in_ok-put_near.ensures.reads.least in omega (arith, l, m, n));
       most = one_round c.movers_of.new.reads c.ids.reads c.mover_of-one.new.reads c.put_near.new.reads c.ids.id-index (length others) c.ids.invariant.most
-          c.mover_of-one.ensures.step c.in_ok-put_near.ensures.most;
+          c.mover_of-one.ensures.step c.in_ok-put_near.ensures.reads.most;
     }
 
 pub returns-clause-rows : goal.returns-clause-rows
@@ -103,10 +108,12 @@ returns-clause-rows g c =
     (keys_more d 0 (1 ∷ []) (keys_of others) ids c.of-id-items.ensures.value c.of-id-items.ensures.ascending are) known
     (λ b is_in t. ap (λ (h : Bool). within scene.w.lo scene.w.hi t && h) (key_says scene.distance c.requires.can.distance s regions b t))
 
-pub returns-clause-most : goal.returns-clause-most
-returns-clause-most g c =
-    let others = c.as_slice-others.result.now in
-    rounds_within c.args.d.now c.of-id-items.result.now c.of.result.now others c.of-id-items.ensures.value c.of.ensures.value
-    (ap (map (λ (m : Mover). m.id)) c.as_slice-others.ensures.value ∙ c.in_ok-movers.ensures.ids)
-    c.args.reads.now c.movers_of.new.reads c.ids.reads c.ids.id-index c.in_ok-movers.ensures.most c.ids.invariant.most
-    (let l : c.ids.id-index ≤ length c.of-id-items.result.now = c.ids.auto.id-index-end in omega (arith, l))
+pub returns-clause-reads : goal.returns-clause-reads
+returns-clause-reads g c = record {
+  least = omega arith;
+  most = (let others = c.as_slice-others.result.now in
+      rounds_within c.args.d.now c.of-id-items.result.now c.of.result.now others c.of-id-items.ensures.value c.of.ensures.value
+      (ap (map (λ (m : Mover). m.id)) c.as_slice-others.ensures.value ∙ c.in_ok-movers.ensures.ids)
+      c.args.reads.now c.movers_of.new.reads c.ids.reads c.ids.id-index c.in_ok-movers.ensures.reads.most c.ids.invariant.most
+      (let l : c.ids.id-index ≤ length c.of-id-items.result.now = c.ids.auto.id-index-end in omega (arith, l)));
+}

@@ -15,7 +15,7 @@ returns-in_err-moves-clause-takes g c = record {
   begins = subst (Begins c.args.out.now.items) (append-nil c.args.out.now.items) (begins_more c.args.out.now.items []);
   least = search rules;
   most = looks_are c.store-store.result.now c.args.database.now.store c.args.live.now c.clock-now.result c.args.database.now.clock c.args.id _ _
-      c.store-store.ensures c.clock-now.ensures c.in_ok-fresh.ensures.most;
+      c.store-store.ensures c.clock-now.ensures c.in_ok-fresh.ensures.reads.most;
 }
 
 pub returns-in_err-push_moves-clause-takes : goal.returns-in_err-push_moves-clause-takes
@@ -23,7 +23,7 @@ returns-in_err-push_moves-clause-takes g c = record {
   begins = search rules;
   least = search rules;
   most = looks_are c.store-store.result.now c.args.database.now.store c.args.live.now c.clock-now.result c.args.database.now.clock c.args.id _ _
-      c.store-store.ensures c.clock-now.ensures c.in_ok-fresh.ensures.most;
+      c.store-store.ensures c.clock-now.ensures c.in_ok-fresh.ensures.reads.most;
 }
 
 pub returns-clause-takes : goal.returns-clause-takes
@@ -31,5 +31,5 @@ returns-clause-takes g c = record {
   begins = search rules;
   least = search rules;
   most = looks_are c.store-store.result.now c.args.database.now.store c.args.live.now c.clock-now.result c.args.database.now.clock c.args.id _ _
-      c.store-store.ensures c.clock-now.ensures c.in_ok-fresh.ensures.most;
+      c.store-store.ensures c.clock-now.ensures c.in_ok-fresh.ensures.reads.most;
 }

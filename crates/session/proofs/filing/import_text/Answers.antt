@@ -27,7 +27,7 @@ returns-in-Ok-clause-most g c = λ rows is.
     (λ (v : Vec Command Global). AreImported class journal text v.items)) c.in-Ok-Some.field-0-is c.in-Ok-Some.ensures.found in
     subst (λ n. c.enter_rows-entered.new.reads ≤ c.args.reads.now + n)
     ((λ i. looks_of_commands (c.commands_in.ensures.same i) (map command_view (c.deref.ensures.value i)))
-    ∙ imported_looks journal class text c.in-Ok-Some.commands.items are rows is) c.enter_rows-entered.ensures.most
+    ∙ imported_looks journal class text c.in-Ok-Some.commands.items are rows is) c.enter_rows-entered.ensures.reads.most
 
 pub returns-in-Err-entered-clause-most : goal.returns-in-Err-entered-clause-most
 returns-in-Err-entered-clause-most g c = λ rows is.
@@ -38,4 +38,4 @@ returns-in-Err-entered-clause-most g c = λ rows is.
     (λ (v : Vec Command Global). AreImported class journal text v.items)) c.in-Ok-Some.field-0-is c.in-Ok-Some.ensures.found in
     subst (λ n. c.enter_rows-entered.new.reads ≤ c.args.reads.now + n)
     ((λ i. looks_of_commands (c.commands_in.ensures.same i) (map command_view (c.deref.ensures.value i)))
-    ∙ imported_looks journal class text c.in-Ok-Some.commands.items are rows is) c.enter_rows-entered.ensures.most
+    ∙ imported_looks journal class text c.in-Ok-Some.commands.items are rows is) c.enter_rows-entered.ensures.reads.most

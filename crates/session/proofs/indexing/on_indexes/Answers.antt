@@ -27,7 +27,7 @@ returns-in-Range-clause-carries g c = λ probes.
     (moment (holding c.args.state.now.journal c.range.new.self) c.range.new.out.items c.range.new.reads probes) c.range.result) (sym c.in-Range.is)
     (range_carries c.args.state.now.journal c.args.state.now.database c.requires.state.keeps c.args.state.now.indexes c.range.new.self
     c.in-Range.span c.in-Range.class c.in-Range.attr c.in-Range.least c.in-Range.greatest c.args.out.now.items c.range.new.out.items c.args.reads.now c.range.new.reads probes c.range.result
-    c.range.ensures.entries c.range.ensures.err c.range.ensures.answered c.range.ensures.begins c.range.ensures.least c.range.ensures.most c.range.ensures.free)
+    c.range.ensures.entries c.range.ensures.err c.range.ensures.answered c.range.ensures.begins c.range.ensures.reads.least c.range.ensures.reads.most c.range.ensures.free)
 
 pub add-requires-clause-wide : goal.add-requires-clause-wide
 add-requires-clause-wide g c =

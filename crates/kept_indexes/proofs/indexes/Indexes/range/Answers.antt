@@ -1,4 +1,4 @@
-use Rattle.std.proofs.Common.{◌≡◌, ◌≤◌, ◌+◌, ◌++◌, get_or, set, sym, ap, subst, ◌∙◌}
+use Rattle.std.proofs.Common.{◌≡◌, ◌≤◌, ◌+◌, ◌++◌, get_or, set, sym, ap, subst, ◌∙◌, arith}
 use Rattle.std.proofs.lemmas.Result.{err_from_is_err_and}
 use Rattle.command_text.specs.Journal.{clock}
 use Rattle.line_meaning.specs.Journal.{world}
@@ -25,12 +25,14 @@ returns-in_err-answer-in-Ok-clause-answered g c =
     (subst (λ ks. IsPlace ks c.args.database.now c.args.range.now c.in-Ok.place) (c.deref.ensures.value ∙ c.self.view_is) c.in-Ok.ensures)
     (c.index_mut.ensures.value ∙ ap (λ ks. get_or ks c.in-Ok.place c.index_mut.result.now) c.self.view_is))
 
-pub returns-in_err-answer-in-Ok-clause-most : goal.returns-in_err-answer-in-Ok-clause-most
-returns-in_err-answer-in-Ok-clause-most g c =
-    subst (λ n. c.answer.new.reads ≤ c.args.reads.now + n) (looks_are c.args.journal.now c.args.database.now c.requires.keeps c.args.self.now c.args.range.now c.in-Ok.place c.index_mut.result.now
-    (subst (λ ks. IsPlace ks c.args.database.now c.args.range.now c.in-Ok.place) (c.deref.ensures.value ∙ c.self.view_is) c.in-Ok.ensures)
-    (c.index_mut.ensures.value ∙ ap (λ ks. get_or ks c.in-Ok.place c.index_mut.result.now) c.self.view_is))
-    c.answer.ensures.most
+pub returns-in_err-answer-in-Ok-clause-reads : goal.returns-in_err-answer-in-Ok-clause-reads
+returns-in_err-answer-in-Ok-clause-reads g c = record {
+  least = omega arith;
+  most = (subst (λ n. c.answer.new.reads ≤ c.args.reads.now + n) (looks_are c.args.journal.now c.args.database.now c.requires.keeps c.args.self.now c.args.range.now c.in-Ok.place c.index_mut.result.now
+      (subst (λ ks. IsPlace ks c.args.database.now c.args.range.now c.in-Ok.place) (c.deref.ensures.value ∙ c.self.view_is) c.in-Ok.ensures)
+      (c.index_mut.ensures.value ∙ ap (λ ks. get_or ks c.in-Ok.place c.index_mut.result.now) c.self.view_is))
+      c.answer.ensures.reads.most);
+}
 
 pub returns-in_ok-answer-in-Ok-clause-indexes : goal.returns-in_ok-answer-in-Ok-clause-indexes
 returns-in_ok-answer-in-Ok-clause-indexes g c =
@@ -59,9 +61,11 @@ returns-in_ok-answer-in-Ok-clause-answered g c = (
       (c.index_mut.ensures.value ∙ ap (λ ks. get_or ks c.in-Ok.place c.index_mut.result.now) c.self.view_is)),
 )
 
-pub returns-in_ok-answer-in-Ok-clause-most : goal.returns-in_ok-answer-in-Ok-clause-most
-returns-in_ok-answer-in-Ok-clause-most g c =
-    subst (λ n. c.answer.new.reads ≤ c.args.reads.now + n) (looks_are c.args.journal.now c.args.database.now c.requires.keeps c.args.self.now c.args.range.now c.in-Ok.place c.index_mut.result.now
-    (subst (λ ks. IsPlace ks c.args.database.now c.args.range.now c.in-Ok.place) (c.deref.ensures.value ∙ c.self.view_is) c.in-Ok.ensures)
-    (c.index_mut.ensures.value ∙ ap (λ ks. get_or ks c.in-Ok.place c.index_mut.result.now) c.self.view_is))
-    c.answer.ensures.most
+pub returns-in_ok-answer-in-Ok-clause-reads : goal.returns-in_ok-answer-in-Ok-clause-reads
+returns-in_ok-answer-in-Ok-clause-reads g c = record {
+  least = omega arith;
+  most = (subst (λ n. c.answer.new.reads ≤ c.args.reads.now + n) (looks_are c.args.journal.now c.args.database.now c.requires.keeps c.args.self.now c.args.range.now c.in-Ok.place c.index_mut.result.now
+      (subst (λ ks. IsPlace ks c.args.database.now c.args.range.now c.in-Ok.place) (c.deref.ensures.value ∙ c.self.view_is) c.in-Ok.ensures)
+      (c.index_mut.ensures.value ∙ ap (λ ks. get_or ks c.in-Ok.place c.index_mut.result.now) c.self.view_is))
+      c.answer.ensures.reads.most);
+}

@@ -1,4 +1,4 @@
-use Rattle.std.proofs.Common.{ℕ, ◌+◌, ◌≤◌, List, ◌∙◌, subst}
+use Rattle.std.proofs.Common.{ℕ, ◌+◌, ◌≤◌, List, ◌∙◌, subst, arith}
 use Rattle.object_store.specs.Contents.{catalog_of}
 use Rattle.live_queries.specs.Asked.{class_in}
 use Rattle.live_queries.specs.Effort.{all_judged_reads}
@@ -6,18 +6,22 @@ use Rattle.live_queries.specs.Kept.{KeptQuery}
 use Rattle.live_queries.proofs.RenewedLemmas.{looks_within}
 use Rattle.live_queries.proofs.live.Live.refresh.Goals as goal
 
-pub returns-in_err-renewals-clause-most : goal.returns-in_err-renewals-clause-most
-returns-in_err-renewals-clause-most g c =
-    looks_within (catalog_of c.args.store.now) c.args.now (class_in c.args.store.now c.args.id) c.args.self.now c.args.reads.now c.renewals_of.new.reads
-    (subst (λ (ks : List KeptQuery). c.renewals_of.new.reads ≤ c.args.reads.now + all_judged_reads (catalog_of c.args.store.now) ks c.args.now (class_in c.args.store.now c.args.id))
-    (c.deref.ensures.value ∙ c.self.view_is)
-    (subst (λ (n : ℕ). c.renewals_of.new.reads ≤ c.args.reads.now + all_judged_reads (catalog_of c.args.store.now) c.deref.result.now c.args.now n)
-    c.class_of-class.ensures c.in_err-renewals.ensures.most))
+pub returns-in_err-renewals-clause-reads : goal.returns-in_err-renewals-clause-reads
+returns-in_err-renewals-clause-reads g c = record {
+  least = omega arith;
+  most = (looks_within (catalog_of c.args.store.now) c.args.now (class_in c.args.store.now c.args.id) c.args.self.now c.args.reads.now c.renewals_of.new.reads
+      (subst (λ (ks : List KeptQuery). c.renewals_of.new.reads ≤ c.args.reads.now + all_judged_reads (catalog_of c.args.store.now) ks c.args.now (class_in c.args.store.now c.args.id))
+      (c.deref.ensures.value ∙ c.self.view_is)
+      (subst (λ (n : ℕ). c.renewals_of.new.reads ≤ c.args.reads.now + all_judged_reads (catalog_of c.args.store.now) c.deref.result.now c.args.now n)
+      c.class_of-class.ensures c.in_err-renewals.ensures.reads.most)));
+}
 
-pub returns-clause-most : goal.returns-clause-most
-returns-clause-most g c =
-    looks_within (catalog_of c.args.store.now) c.args.now (class_in c.args.store.now c.args.id) c.args.self.now c.args.reads.now c.renewals_of.new.reads
-    (subst (λ (ks : List KeptQuery). c.renewals_of.new.reads ≤ c.args.reads.now + all_judged_reads (catalog_of c.args.store.now) ks c.args.now (class_in c.args.store.now c.args.id))
-    (c.deref.ensures.value ∙ c.self.view_is)
-    (subst (λ (n : ℕ). c.renewals_of.new.reads ≤ c.args.reads.now + all_judged_reads (catalog_of c.args.store.now) c.deref.result.now c.args.now n)
-    c.class_of-class.ensures c.in_ok-renewals.ensures.most))
+pub returns-clause-reads : goal.returns-clause-reads
+returns-clause-reads g c = record {
+  least = omega arith;
+  most = (looks_within (catalog_of c.args.store.now) c.args.now (class_in c.args.store.now c.args.id) c.args.self.now c.args.reads.now c.renewals_of.new.reads
+      (subst (λ (ks : List KeptQuery). c.renewals_of.new.reads ≤ c.args.reads.now + all_judged_reads (catalog_of c.args.store.now) ks c.args.now (class_in c.args.store.now c.args.id))
+      (c.deref.ensures.value ∙ c.self.view_is)
+      (subst (λ (n : ℕ). c.renewals_of.new.reads ≤ c.args.reads.now + all_judged_reads (catalog_of c.args.store.now) c.deref.result.now c.args.now n)
+      c.class_of-class.ensures c.in_ok-renewals.ensures.reads.most)));
+}

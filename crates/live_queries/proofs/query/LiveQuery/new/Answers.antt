@@ -41,10 +41,10 @@ invariant_of-result g c = (
       (c.fitting_queries_can_be_asked.ensures.over (resolved_view c.args.query) c.requires.resolved) c.in_ok-columns.ensures
       (few_numbers (catalog_of c.args.world.now.store.now) (resolved_view c.args.query) c.in_ok-columns.columns.items c.requires.resolved c.in_ok-columns.ensures c.requires.size)
       (subst (λ (cs : List Column). HasRoom c.in_ok-rows.rows (size_of (column_variables cs))) c.deref.ensures.value c.in_ok-rows.ensures.room)
-      c.requires.window c.requires.last),
+      c.requires.ends.window c.requires.ends.last),
   c.targets_of-targets.ensures.count ∙ (λ i. size_of (column_variables (take (length (c.items.ensures i)) (c.deref-2.ensures.value i)))),
   c.targets_of-targets.ensures.width ∙ (λ i. size_of (column_variables (drop (length (c.items.ensures i)) (c.deref-2.ensures.value i)))),
-  c.requires.length,
+  c.requires.ends.length,
   subst (λ (cs : List Column). ForSome c.lone_of-lone.result (IsLone c.args.query.classes cs)) c.deref-3.ensures.value c.lone_of-lone.ensures,
 )
 
@@ -63,14 +63,18 @@ returns-clause-kept g c =
     (c.fitting_queries_can_be_asked.ensures.over (resolved_view c.args.query) c.requires.resolved) c.in_ok-columns.ensures
     (few_numbers (catalog_of c.args.world.now.store.now) (resolved_view c.args.query) c.in_ok-columns.columns.items c.requires.resolved c.in_ok-columns.ensures c.requires.size)
     (subst (λ (cs : List Column). HasRoom c.in_ok-rows.rows (size_of (column_variables cs))) c.deref.ensures.value c.in_ok-rows.ensures.room)
-    c.requires.window c.requires.last)
+    c.requires.ends.window c.requires.ends.last)
 
-pub returns-in_err-rows-clause-most : goal.returns-in_err-rows-clause-most
-returns-in_err-rows-clause-most g c =
-    most_over (sizes_of (catalog_of c.args.world.now.store.now) (resolved_view c.args.query)) (resolved_view c.args.query) _ _ c.first_told-lo.result
-    c.args.info.now.entry c.args.info.now.expiry c.first_told-lo.ensures.least c.in_err-rows.ensures.most
+pub returns-in_err-rows-clause-reads : goal.returns-in_err-rows-clause-reads
+returns-in_err-rows-clause-reads g c = record {
+  least = omega arith;
+  most = (most_over (sizes_of (catalog_of c.args.world.now.store.now) (resolved_view c.args.query)) (resolved_view c.args.query) _ _ c.first_told-lo.result
+      c.args.info.now.entry c.args.info.now.expiry c.first_told-lo.ensures.least c.in_err-rows.ensures.reads.most);
+}
 
-pub returns-clause-most : goal.returns-clause-most
-returns-clause-most g c =
-    most_over (sizes_of (catalog_of c.args.world.now.store.now) (resolved_view c.args.query)) (resolved_view c.args.query) _ _ c.first_told-lo.result
-    c.args.info.now.entry c.args.info.now.expiry c.first_told-lo.ensures.least c.in_ok-rows.ensures.most
+pub returns-clause-reads : goal.returns-clause-reads
+returns-clause-reads g c = record {
+  least = omega arith;
+  most = (most_over (sizes_of (catalog_of c.args.world.now.store.now) (resolved_view c.args.query)) (resolved_view c.args.query) _ _ c.first_told-lo.result
+      c.args.info.now.entry c.args.info.now.expiry c.first_told-lo.ensures.least c.in_ok-rows.ensures.reads.most);
+}

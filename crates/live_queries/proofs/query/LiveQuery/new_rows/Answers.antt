@@ -20,14 +20,18 @@ returns-clause-rows g c =
     (λ ds made. c.in_ok-changes.ensures.rows ds
     (subst (λ (cs : List Column). AreColumnsWith c.args.grows c.args.object.now.class c.self.inside.query.classes c.args.object.now.id cs ds) (sym c.deref.ensures.value) made))
 
-pub returns-in_err-changes-clause-most : goal.returns-in_err-changes-clause-most
-returns-in_err-changes-clause-most g c =
-    judged_within (catalog_of c.args.world.now.store.now) c.args.now c.args.object.now.class _ _ c.first_judged.result c.judged_from-judged.result _ c.args.self.now
-    c.self.view_is (grind (arith, nat_tests, c.if-self-now.false)) c.judged_from-judged.ensures.value c.first_judged.ensures.value
-    c.in_err-changes.ensures.most
+pub returns-in_err-changes-clause-reads : goal.returns-in_err-changes-clause-reads
+returns-in_err-changes-clause-reads g c = record {
+  least = omega arith;
+  most = (judged_within (catalog_of c.args.world.now.store.now) c.args.now c.args.object.now.class _ _ c.first_judged.result c.judged_from-judged.result _ c.args.self.now
+      c.self.view_is (grind (arith, nat_tests, c.if-self-now.false)) c.judged_from-judged.ensures.value c.first_judged.ensures.value
+      c.in_err-changes.ensures.reads.most);
+}
 
-pub returns-clause-most : goal.returns-clause-most
-returns-clause-most g c =
-    judged_within (catalog_of c.args.world.now.store.now) c.args.now c.args.object.now.class _ _ c.first_judged.result c.judged_from-judged.result _ c.args.self.now
-    c.self.view_is (grind (arith, nat_tests, c.if-self-now.false)) c.judged_from-judged.ensures.value c.first_judged.ensures.value
-    c.in_ok-changes.ensures.most
+pub returns-clause-reads : goal.returns-clause-reads
+returns-clause-reads g c = record {
+  least = omega arith;
+  most = (judged_within (catalog_of c.args.world.now.store.now) c.args.now c.args.object.now.class _ _ c.first_judged.result c.judged_from-judged.result _ c.args.self.now
+      c.self.view_is (grind (arith, nat_tests, c.if-self-now.false)) c.judged_from-judged.ensures.value c.first_judged.ensures.value
+      c.in_ok-changes.ensures.reads.most);
+}

@@ -25,7 +25,7 @@ returns-clause-stands c =
     let s : Contents = contents_of c.self.inside.tables in
     subst (λ (s : Contents). OnOk c.update_placed.result (GrowsBy s (contents_of c.update_placed.new.tables) (Update c.args.now c.args.name.now c.args.place.now c.args.sets.now))) c.self.view_is
     (ok_stands c.update_placed.result (update_fault (catalog_of s) (is_some (state_of s c.args.name.now c.args.now)) c.args.name.now c.args.place.now c.args.sets.now) c.args.name.now s (after_update s c.args.now c.args.name.now c.args.place.now c.args.sets.now) (members_of c.update_placed.new.tables) (contents_of c.update_placed.new.tables) (Update c.args.now c.args.name.now c.args.place.now c.args.sets.now)
-    c.update_placed.ensures.ok c.update_placed.ensures.judged (λ accepted. stands_update s (members_of c.self.inside.tables) c.args.now c.args.name.now c.args.place.now c.args.sets.now c.self.invariant.kept (subst (λ (t : Contents). t.last_tick ≤ c.args.now) (sym c.self.view_is) c.requires.after)))
+    c.update_placed.ensures.ok c.update_placed.ensures.judged (λ accepted. stands_update s (members_of c.self.inside.tables) c.args.now c.args.name.now c.args.place.now c.args.sets.now c.self.invariant.kept (subst (λ (t : Contents). t.last_tick ≤ c.args.now) (sym c.self.view_is) c.requires.now.after)))
 
 pub returns-clause-accepted : goal.returns-clause-accepted
 returns-clause-accepted c =

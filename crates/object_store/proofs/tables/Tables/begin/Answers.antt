@@ -24,7 +24,7 @@ returns-clause-ok c =
     in
     subst (λ (done : Done). WritesNamed name s (with_epoch_of s name p) (members_of c.args.self.now) after done) (sym c.known.ensures)
     (known_writes s (members_of c.args.self.now) name c.args.at at.0 p c.in_ok-replaced.replaced (λ _. p) after.objects c.args.now
-    c.requires.kept c.requires.after c.requires.tick c.requires.name at.1 (some_fits (attributes_of_number s.classes at.0.class) c.args.cells.items fits)
+    c.requires.kept c.requires.now.after c.requires.now.tick c.requires.name at.1 (some_fits (attributes_of_number s.classes at.0.class) c.args.cells.items fits)
     c.in_ok-replaced.ensures.ok refl refl)
 
 pub overflow_cast-at : goal.overflow_cast-at

@@ -18,7 +18,7 @@ returns-clause-ok c =
     let after : Contents = record { classes = s.classes; objects = objects_of c.enter.new.objects.entries; last_tick = c.args.now } in
     subst (λ (done : Done). WritesNamed name s (with_object s c.args.number name p) c.enter.new.members.items after done) (sym c.entered.ensures)
     (entered_writes s (members_of c.args.self.now) c.args.number name p c.begin_with.new.self after.objects c.enter.new.members.items c.in_ok-id.id c.args.now
-    c.requires.kept c.requires.after c.requires.tick c.requires.name c.requires.room (some_fits (attributes_of_number s.classes c.args.number) c.args.cells.items c.requires.fits)
+    c.requires.kept c.requires.now.after c.requires.now.tick c.requires.name c.requires.room (some_fits (attributes_of_number s.classes c.args.number) c.args.cells.items c.requires.fits)
     c.in_ok-id.ensures.objects (c.in_ok-begin_with.ensures.ok ∙ ap (λ epochs. put epochs p) c.new-timeline.ensures) c.in_ok-id.ensures.members c.in_ok-id.ensures.id refl)
 
 pub enter-requires-clause-few : goal.enter-requires-clause-few

@@ -20,7 +20,7 @@ returns-clause-ok c =
     let at = object_at_index name s.objects c.args.at c.requires.name in
     subst (λ (done : Done). WritesNamed name s (with_epoch_of s name p) (members_of c.args.self.now) after done) (sym c.known.ensures)
     (known_writes s (members_of c.args.self.now) name c.args.at at.0 p c.in_ok-replaced.replaced (λ _. p) after.objects c.args.now
-    c.requires.kept c.requires.after c.requires.tick c.requires.name at.1 (λ cells is. absurd (none-some cells is))
+    c.requires.kept c.requires.now.after c.requires.now.tick c.requires.name at.1 (λ cells is. absurd (none-some cells is))
     c.in_ok-replaced.ensures.ok refl refl)
 
 pub overflow_cast-at : goal.overflow_cast-at

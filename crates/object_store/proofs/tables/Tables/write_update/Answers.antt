@@ -70,7 +70,7 @@ returns-clause-ok c =
     let after : Contents = record { classes = s.classes; objects = objects_of c.write_at.new.objects.entries; last_tick = now } in
     subst (λ (done : Done). WritesNamed name s (with_epoch_of s name p) (members_of c.args.self.now) after done) (sym c.known.ensures)
     (known_writes s (members_of c.args.self.now) name c.args.at o p c.in_ok-replaced.replaced epoch after.objects now
-    c.requires.kept c.requires.after c.requires.tick c.requires.name at.there fits
+    c.requires.kept c.requires.now.after c.requires.now.tick c.requires.name at.there fits
     c.in_ok-replaced.ensures.ok (λ i. record { from = now; cells = cells i }) refl)
 
 pub overflow_cast-at : goal.overflow_cast-at

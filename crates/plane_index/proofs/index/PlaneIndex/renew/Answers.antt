@@ -1,4 +1,4 @@
-use Rattle.std.proofs.Common.{◌+◌, ◌≤◌, ◌++◌, not, length, take, drop, sym, ap, subst, ◌∙◌}
+use Rattle.std.proofs.Common.{◌+◌, ◌≤◌, ◌++◌, not, length, take, drop, sym, ap, subst, ◌∙◌, arith}
 use Rattle.std.specs.Prelude.{count_by}
 use Rattle.tick_set.specs.Ticks.{between}
 use Rattle.history.specs.Catalog.{ids_of}
@@ -56,13 +56,15 @@ returns-clause-right g c =
     subst (λ (grid : Grid). IsIndexOf c.args.store.now (index_of grid now.ids.items (take now.fresh.len (c.freshen.new.fresh ++ drop (length c.freshen.new.fresh) now.fresh.items)) c.freshen.new.states.states)) (sym c.freshen.ensures.grid)
     (all_right c.args.store.now now.states.grid now.ids.items now.fresh.items _ now.states.states _ (subst (IsIndexOf c.args.store.now) (sym c.self-2.view_is) more) done)
 
-pub returns-clause-most : goal.returns-clause-most
-returns-clause-most g c =
-    let now = c.self-2.inside in
-    let seen = ap (λ (index : Index). index.ids) c.self-2.view_is ∙ c.in_ok-see.ensures.seen ∙ c.class_names.ensures.told in
-    let class_of = c.class-class.ensures ∙ ap (λ (grid : Grid). grid.class) c.grid.ensures ∙ ap (λ (index : Index). index.grid.class) c.self.view_is in
-    let counted =
-    looked_at c.args.store.now now.states.grid now.ids.items now.fresh.items now.states.states c.args.self.now c.see.new.self c.self-2.invariant c.self-2.view_is
-    (seen ∙ ap (ids_of (catalog_of c.args.store.now)) class_of) c.in_ok-see.ensures.fresh in
-    subst (λ count. c.freshen.new.reads ≤ c.args.reads.now + count)
-    ((λ i. count_by (λ k. not (fresh_at (c.deref_mut.ensures.value i) k)) (between 0 (length (c.deref.ensures.value i)))) ∙ counted) c.freshen.ensures.most
+pub returns-clause-reads : goal.returns-clause-reads
+returns-clause-reads g c = record {
+  least = omega arith;
+  most = (let now = c.self-2.inside in
+      let seen = ap (λ (index : Index). index.ids) c.self-2.view_is ∙ c.in_ok-see.ensures.seen ∙ c.class_names.ensures.told in
+      let class_of = c.class-class.ensures ∙ ap (λ (grid : Grid). grid.class) c.grid.ensures ∙ ap (λ (index : Index). index.grid.class) c.self.view_is in
+      let counted =
+      looked_at c.args.store.now now.states.grid now.ids.items now.fresh.items now.states.states c.args.self.now c.see.new.self c.self-2.invariant c.self-2.view_is
+      (seen ∙ ap (ids_of (catalog_of c.args.store.now)) class_of) c.in_ok-see.ensures.fresh in
+      subst (λ count. c.freshen.new.reads ≤ c.args.reads.now + count)
+      ((λ i. count_by (λ k. not (fresh_at (c.deref_mut.ensures.value i) k)) (between 0 (length (c.deref.ensures.value i)))) ∙ counted) c.freshen.ensures.reads.most);
+}
