@@ -4,6 +4,7 @@ use crate::made::{Spot, Way, line_in_reach, places, window};
 use distance_crossing::{fits, sphere_ticks};
 use fixed_point::Fix;
 use geometry::RADIUS_LIMIT;
+use std::alloc::Global;
 use std::marker::Brand;
 use std::sync::ledger::{Blank, Ledger};
 use std::test::Fail;
@@ -102,26 +103,29 @@ const LEFT: Way = (0, 0, 0, 0);
 const RIGHT: Way = (4000, 0, 0, 0);
 
 // Whether, from tick 100 to 120, the car and both posts fit a circle of radius 2 at these ticks alone.
-fn is_between_posts<M: Ledger>(rt: &HostRuntime, blank: Blank, ticks: Span) -> Result<bool, Fail>
+fn is_between<M: Ledger>(alloc: Global, ticks: Span, probes: &mut Steps<M>) -> Option<bool> {
+    let r = radius(2000)?;
+    let w = window((100, 120))?;
+    let car = line_in_reach(CAR)?;
+    let left = line_in_reach(LEFT)?;
+    let right = line_in_reach(RIGHT)?;
+    let found = sphere_ticks(alloc, r, &[left, car, right], w, probes).ok()?;
+    Some(found.spans() == [ticks].as_slice())
+}
+
+fn is_between_posts<M: Ledger>(rt: &HostRuntime, blank: Blank, ticks: Span) -> Option<bool>
     requires name { blank.name ≡ M.name }
     requires parts { blank.parts ≡ M.parts }
     requires some_part { 0 < blank.parts }
 {
     let mut probes: Steps<M> = Steps::new(rt, blank);
-    let r = radius(2000).ok_or("no radius")?;
-    let w = window((100, 120)).ok_or("no window")?;
-    let car = line_in_reach(CAR).ok_or("no motion")?;
-    let left = line_in_reach(LEFT).ok_or("no motion")?;
-    let right = line_in_reach(RIGHT).ok_or("no motion")?;
-    let found = sphere_ticks(rt.alloc(), r, &[left, car, right], w, &mut probes)?;
-    Ok(found.spans() == [ticks].as_slice())
+    is_between(rt.alloc(), ticks, &mut probes)
 }
 
 // The car is in the circle over the posts where the angle at it isn't sharp.
 #[test]
 fn motions_that_come_together(rt: HostRuntime) -> Result<(), Fail> {
     let ticks = Span::new(108, 112).ok_or("no span")?;
-    let right = is_between_posts::<Brand>(&rt, Blank::new(1), ticks)?;
-    assert!(rt; right);
+    assert!(rt; is_between_posts::<Brand>(&rt, Blank::new(1), ticks) == Some(true));
     Ok(())
 }
