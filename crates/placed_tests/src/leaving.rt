@@ -26,7 +26,7 @@ fn asked(formula: &[u8], error: u32, ends: (u32, u32)) -> Asked<'_>
 }
 
 // Formulas that need cars in one place or in two.
-const SOMEWHERE: [&[u8]; 16] = [
+const SOMEWHERE: &[&[u8]] = &[
     b"INSIDE(o,Q)",
     b"EVENTUALLY INSIDE(o,Q)",
     b"NEXTTIME INSIDE(o,Q)",
@@ -46,7 +46,7 @@ const SOMEWHERE: [&[u8]; 16] = [
 ];
 
 // Formulas that may hold of each car.
-const ANYWHERE: [&[u8]; 4] = [
+const ANYWHERE: &[&[u8]] = &[
     b"OUTSIDE(o,Q)",
     b"NOT INSIDE(o,Q)",
     b"INSIDE(o,P) OR TRUE",
@@ -54,7 +54,7 @@ const ANYWHERE: [&[u8]; 4] = [
 ];
 
 fn leave_few(rt: &impl Abort, alloc: Global, store: &Store) -> Result<(), Fail> {
-    for formula in SOMEWHERE {
+    for &formula in SOMEWHERE {
         let count = left(alloc, store, &asked(formula, 0, (0, 100)))?;
         assert!(rt; 0 < count && count < 100, "{formula:?} leaves {count}");
     }
@@ -69,7 +69,7 @@ fn few_of_many_cars_are_left(rt: HostRuntime) -> Result<(), Fail> {
 }
 
 fn leave_all(rt: &impl Abort, alloc: Global, store: &Store) -> Result<(), Fail> {
-    for formula in ANYWHERE {
+    for &formula in ANYWHERE {
         let count = left(alloc, store, &asked(formula, 0, (0, 100)))?;
         assert_eq!(rt; count, 1000, "{formula:?}");
     }
@@ -176,7 +176,7 @@ fn few_are_left_after_many_ticks(rt: HostRuntime) -> Result<(), Fail> {
 
 // As many are left at least where positions may be off, and few still.
 fn leave_few_within(rt: &impl Abort, alloc: Global, store: &Store, error: u32) -> Result<(), Fail> {
-    for formula in SOMEWHERE {
+    for &formula in SOMEWHERE {
         let exact = left(alloc, store, &asked(formula, 0, (0, 100)))?;
         let count = left(alloc, store, &asked(formula, error, (0, 100)))?;
         assert!(rt; exact <= count && count < 100, "{formula:?} leaves {count}");

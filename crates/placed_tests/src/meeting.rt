@@ -19,7 +19,7 @@ fn asked(formula: &[u8]) -> Asked<'_> {
 }
 
 // Formulas that need cars inside regions.
-const SOMEWHERE: [&[u8]; 8] = [
+const SOMEWHERE: &[&[u8]] = &[
     b"INSIDE(o,Q)",
     b"EVENTUALLY_WITHIN 60 INSIDE(o,Q)",
     b"ALWAYS_FOR 60 INSIDE(o,Q)",
@@ -31,7 +31,7 @@ const SOMEWHERE: [&[u8]; 8] = [
 ];
 
 // Formulas that may hold anywhere, as far as regions tell.
-const ANYWHERE: [&[u8]; 5] = [
+const ANYWHERE: &[&[u8]] = &[
     b"OUTSIDE(o,Q)",
     b"NOT INSIDE(o,Q)",
     b"INSIDE(o,P) OR TRUE",
@@ -40,7 +40,7 @@ const ANYWHERE: [&[u8]; 5] = [
 ];
 
 fn meet_few(rt: &impl Abort, alloc: Global, store: &Store) -> Result<(), Fail> {
-    for formula in SOMEWHERE {
+    for &formula in SOMEWHERE {
         let count = met(alloc, store, &asked(formula))?;
         assert!(rt; 0 < count && count < 100, "{formula:?} with {count}");
     }
@@ -55,7 +55,7 @@ fn few_of_many_cars_can_be_inside(rt: HostRuntime) -> Result<(), Fail> {
 }
 
 fn meet_all(rt: &impl Abort, alloc: Global, store: &Store) -> Result<(), Fail> {
-    for formula in ANYWHERE {
+    for &formula in ANYWHERE {
         let count = met(alloc, store, &asked(formula))?;
         assert_eq!(rt; count, 1000, "{formula:?}");
     }

@@ -55,7 +55,7 @@ fn some_objects(alloc: Global) -> Result<Store, Fail> {
 }
 
 // No box tells of a window past all horizons, so each object is judged by itself then.
-const TOLD: [Row; 8] = [
+const TOLD: &[Row] = &[
     (CAR, (0, 0), (3, 60), Some(&[0])),
     (POST, (0, 0), (3, 60), Some(&[2])),
     (CAR, (50_000, 500_000), (3, 60), Some(&[3])),
@@ -69,12 +69,12 @@ const TOLD: [Row; 8] = [
 #[test]
 fn objects_are_told_where_they_may_be(rt: HostRuntime) -> Result<(), Fail> {
     let store = some_objects(rt.alloc())?;
-    let done = are_told(&rt, rt.alloc(), &store, &TOLD);
+    let done = are_told(&rt, rt.alloc(), &store, TOLD);
     spent(store, done)
 }
 
 // Where the moving car was is forgotten.
-const LATER: [Row; 3] = [
+const LATER: &[Row] = &[
     (CAR, (50_000, 500_000), (2000, 2060), Some(&[])),
     (CAR, (2_010_000, 500_000), (2000, 2060), Some(&[3])),
     (CAR, (0, 0), (2000, 2060), Some(&[0])),
@@ -84,13 +84,13 @@ const LATER: [Row; 3] = [
 fn objects_are_told_as_the_clock_goes_on(rt: HostRuntime) -> Result<(), Fail> {
     let mut store = some_objects(rt.alloc())?;
     store.stands_at(2000);
-    let done = are_told(&rt, rt.alloc(), &store, &LATER);
+    let done = are_told(&rt, rt.alloc(), &store, LATER);
     spent(store, done)
 }
 
-const GONE: [Row; 1] = [(CAR, (0, 0), (5, 60), Some(&[]))];
+const GONE: &[Row] = &[(CAR, (0, 0), (5, 60), Some(&[]))];
 
-const BACK: [Row; 2] = [
+const BACK: &[Row] = &[
     (CAR, (0, 0), (7, 60), Some(&[])),
     (CAR, (400_000, 0), (7, 60), Some(&[0])),
 ];
@@ -98,9 +98,9 @@ const BACK: [Row; 2] = [
 fn goes_and_comes(rt: &impl Abort, alloc: Global, store: &mut Store) -> Result<(), Fail> {
     come(store, 0, b"car", b"a", (0, 0, 0, 0))?;
     go(store, 5, b"a")?;
-    are_told(rt, alloc, store, &GONE)?;
+    are_told(rt, alloc, store, GONE)?;
     come(store, 7, b"car", b"a", (400_000, 0, 0, 0))?;
-    are_told(rt, alloc, store, &BACK)
+    are_told(rt, alloc, store, BACK)
 }
 
 #[test]

@@ -37,7 +37,7 @@ fn cars_and_posts(alloc: Global) -> Result<Store, Fail> {
 }
 
 // Formulas that need cars near to a post.
-const NEAR: [&[u8]; 8] = [
+const NEAR: &[&[u8]] = &[
     b"DIST(o,n) <= 3",
     b"DIST(n,o) <= 3",
     b"DIST(o,n) < 3",
@@ -49,7 +49,7 @@ const NEAR: [&[u8]; 8] = [
 ];
 
 // Formulas that may hold of each car.
-const ANYWHERE: [&[u8]; 4] = [
+const ANYWHERE: &[&[u8]] = &[
     b"DIST(o,n) > 3",
     b"DIST(n,o) >= 3",
     b"NOT DIST(o,n) <= 3",
@@ -57,7 +57,7 @@ const ANYWHERE: [&[u8]; 4] = [
 ];
 
 fn leave_few(rt: &impl Abort, alloc: Global, store: &Store, error: u32) -> Result<(), Fail> {
-    for formula in NEAR {
+    for &formula in NEAR {
         let count = left(alloc, store, &asked(formula, error))?;
         assert!(rt; 0 < count && count < 100, "{formula:?} leaves {count}");
     }
@@ -79,7 +79,7 @@ fn few_cars_are_left_near_posts_where_positions_may_be_off(rt: HostRuntime) -> R
 }
 
 fn leave_all(rt: &impl Abort, alloc: Global, store: &Store) -> Result<(), Fail> {
-    for formula in ANYWHERE {
+    for &formula in ANYWHERE {
         let count = left(alloc, store, &asked(formula, 0))?;
         assert_eq!(rt; count, 1000, "{formula:?}");
     }
