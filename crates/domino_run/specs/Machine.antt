@@ -45,8 +45,8 @@ run_machine = record {
   done = λ s. s.ended;
 }
 
--- The shelf fails of a command on files that the line and what is held don't refuse. Only the text that the command was to
--- write may be another one then, or gone.
+-- The shelf fails only on a command on files that neither the line nor what is held refuses. Then only the text that the
+-- command was to write may be another one, or gone.
 pub record FailsOnFile (b : Base) (line : List ℕ) (left : Texts) : Type 0 where
   pub asks : asks_shelf (spelled line) ≡ true
   pub accepted : line_refusal b.held line ≡ None

@@ -21,7 +21,7 @@ run_setting words limit bytes written texts = record {
   texts = texts;
 }
 
--- all that a run promises, from the outside before it to that after it, and from the looks that were counted before it
+-- all that a run promises, by the outside before and after it, and by the looks that were counted before and after it
 pub record RunsAs (limit : ℕ) (words : Words) (before after : Seen) (looks looks' : ℕ) (status : Status) : Type 0 where
   pub fits : allows_status words status ≡ true
   pub cause : HasStatusCause status before.faults after.faults

@@ -78,7 +78,7 @@ pub record AnswersUntil {T : Type 0} (m : Machine T) (leaves : Failures T) (tell
   pub texts_are : after.texts ≡ option_map tells state
   pub ends : loop.HasEnding m leaves g.limit (record { state = start; written = g.written }) g.bytes ending state after.written after.left
 
--- One case a status. Of a shelf that fails nothing was done where the text to begin with was asked.
+-- One case a status. Where the shelf fails on the text that is fetched first, nothing was done.
 abbrev pub EndsAs : {T : Type 0} → Machine T → Failures T → (T → Texts) → Setting T → Status → Seen → Type 0
 EndsAs m leaves tells g Done after = IsSaid g Done after ⊎ AnswersUntil m leaves tells g endings.Done after
 EndsAs m leaves tells g BadWords after = IsSaid g BadWords after
