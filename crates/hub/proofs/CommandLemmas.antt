@@ -13,7 +13,7 @@ use Rattle.feeds_meaning.specs.Heard.{own_text}
 use Rattle.feeds_meaning.specs.Hub.{Hub, Seated}
 use Rattle.feeds_meaning.specs.Lines.{is_data}
 use Rattle.hub.specs.Answering.{answer_by}
-use Rattle.hub.specs.declared.seat.Seat.{Seat as Kept}
+use Rattle.hub.specs.Told.{HeldUser as Kept}
 use Rattle.hub.specs.Seats.{IsHub, IsUser, accepted_in}
 use Rattle.hub.specs.Told.{AreTold, HasRoomAt, HasSentAt, IsAnsweredAt, IsAnsweredBy, IsOwnAt, MayBeTold, change_by, kept_own, kept_told, seated, seated_by, told_to_seat}
 use Rattle.hub.proofs.HubLemmas.{HasRoomFor, hub_goes_on}
@@ -28,7 +28,7 @@ use Rattle.exact.proofs.Lists.{bytes_eq_refl}
 abbrev pub hub_by : ℕ → List Kept → Hub
 hub_by d seats = record { seats = map (seated d) seats; accepted = accepted_in (map (seated d) seats) }
 
-pub is_at : (seats : List Kept) (place : ℕ) (s : Kept) → place < length seats → s ≡ get_or seats place s → slice_get seats place ≡ Some s
+pub is_at : {A : Type 0} (seats : List A) (place : ℕ) (s : A) → place < length seats → s ≡ get_or seats place s → slice_get seats place ≡ Some s
 is_at seats place s inside e = slice_get-get_or seats place s inside ∙ ap Some (sym e)
 
 pub seated_at : (d : ℕ) (seats : List Kept) (place : ℕ) (s : Kept) → slice_get seats place ≡ Some s → slice_get (map (seated d) seats) place ≡ Some (seated d s)
@@ -59,6 +59,7 @@ lines_some n (x ∷ final) some hub = hub.users.0.data_lines
 pub record AreKept (place : ℕ) (c : CommandTree) (d n : ℕ) (seats final : List Kept) (before after : List ℕ) : Type 0 where
   pub carried : IsCarried place c (hub_by d seats) (hub_by n final) before after
   pub data_lines : n ≡ length (hub_by n final).accepted
+  pub some : 0 < length final
 
 module _ (d : ℕ) (seats : List Kept) (place : ℕ) (s : Kept) (c : CommandTree) (reaches : ReachesMore) (hub : IsHub (hub_by d seats)) (c_short : IsShort c)
     (room : HasRoomAt place c (hub_by d seats)) (at : slice_get seats place ≡ Some s) where
@@ -74,14 +75,14 @@ module _ (d : ℕ) (seats : List Kept) (place : ℕ) (s : Kept) (c : CommandTree
   room_for : HasRoomFor (hub_by d seats).accepted (seated d s) c
   room_for = record { of_data = room.of_data; of_queries = λ is. room.of_queries is (seated d s) there }
 
-  carried : (n : ℕ) (final : List Kept) (r : Option Refusal) (before after : List ℕ) → fault_of s.session c ≡ r →
+  carried : (n : ℕ) (final : List Kept) (r : Option Refusal) (before after : List ℕ) → fault_of s.held c ≡ r →
       map (seated n) final ≡ map (seated_by s.user c r) (map (seated d) seats) →
       after ≡ before ++ flat_map (told_to_seat s.user c r) (map (seated d) seats) → IsCarried place c (hub_by d seats) (hub_by n final) before after
   carried n final r before after fault kept said =
       let goes = hub_goes_on (hub_by d seats) c (seated d s) place r (map (seated n) final) reaches hub c_short room_for single there sender fault kept in
       let by : IsAnsweredBy s.user c r (hub_by d seats) (hub_by n final) before after =
       record { seats = kept; accepted = goes.accepted; said = said } in
-      let judged : IsAnsweredBy s.user c (fault_of s.session c) (hub_by d seats) (hub_by n final) before after =
+      let judged : IsAnsweredBy s.user c (fault_of s.held c) (hub_by d seats) (hub_by n final) before after =
       subst (λ (o : Option Refusal). IsAnsweredBy s.user c o (hub_by d seats) (hub_by n final) before after) (sym fault) by in
       record {
         answered = λ x found.
@@ -91,7 +92,7 @@ module _ (d : ℕ) (seats : List Kept) (place : ℕ) (s : Kept) (c : CommandTree
       }
 
   -- a data command that is accepted
-  pub data_carried : (own before after : List ℕ) (final : List Kept) → is_data c ≡ true → fault_of s.session c ≡ None → own ≡ own_text s.session c →
+  pub data_carried : (own before after : List ℕ) (final : List Kept) → is_data c ≡ true → fault_of s.held c ≡ None → own ≡ own_text s.held c →
       AreTold s.user own c (slice_set seats place (kept_own c None s)) final before after →
       IsCarried place c (hub_by d seats) (hub_by (d + 1) final) before after
   data_carried own before after final is fault text told =
@@ -100,8 +101,8 @@ module _ (d : ℕ) (seats : List Kept) (place : ℕ) (s : Kept) (c : CommandTree
       (told.said ∙ ap (λ l. before ++ l) (data_told s.user c d own seats place s is single at text))
 
   -- what is no data command or is refused
-  pub plain_carried : (r : Option Refusal) (before after : List ℕ) (final : List Kept) → change_by c r ≡ None → fault_of s.session c ≡ r →
-      final ≡ slice_set seats place (kept_own c r s) → after ≡ before ++ tagged s.user (answer_by s.session c r) →
+  pub plain_carried : (r : Option Refusal) (before after : List ℕ) (final : List Kept) → change_by c r ≡ None → fault_of s.held c ≡ r →
+      final ≡ slice_set seats place (kept_own c r s) → after ≡ before ++ tagged s.user (answer_by s.held c r) →
       IsCarried place c (hub_by d seats) (hub_by d final) before after
   plain_carried r before after final nothing fault kept said =
       carried d final r before after fault
@@ -109,13 +110,13 @@ module _ (d : ℕ) (seats : List Kept) (place : ℕ) (s : Kept) (c : CommandTree
       (said ∙ ap (λ l. before ++ l) (sym (plain_told s.user c d r seats place s nothing single at)))
 
   -- whoever isn't the sender takes a data command that is accepted
-  each_told : (x : Kept) → is_data c ≡ true → fault_of s.session c ≡ None → IsUser (hub_by d seats).accepted (seated d x) → MayBeTold s.user c x
+  each_told : (x : Kept) → is_data c ≡ true → fault_of s.held c ≡ None → IsUser (hub_by d seats).accepted (seated d x) → MayBeTold s.user c x
   each_told x is fault user = record {
     accepted = λ other. refused_alike (hub_by d seats).accepted (seated d s) (seated d x) c sender user is c_short (room.of_data is) fault;
     short = user.short;
   }
 
-  pub all_may_be_told : is_data c ≡ true → fault_of s.session c ≡ None → All (MayBeTold s.user c) (slice_set seats place (kept_own c None s))
+  pub all_may_be_told : is_data c ≡ true → fault_of s.held c ≡ None → All (MayBeTold s.user c) (slice_set seats place (kept_own c None s))
   all_may_be_told is fault =
       let own : MayBeTold s.user c (kept_own c None s) = record {
         accepted = λ other. let bad : true ≡ false = sym (bytes_eq_refl s.user) ∙ other in absurd (cc);
@@ -151,9 +152,9 @@ changes_nothing None c b e h =
 changes_nothing (Some r) c b e h = refl
 
 record OwnAt (seats : List Kept) (place : ℕ) (s : Kept) (c : CommandTree) (new : List Kept) (text : List ℕ) (accepted : Bool) : Type 0 where
-  told : accepted ≡ is_none (fault_of s.session c)
-  new_is : new ≡ slice_set seats place (kept_own c (fault_of s.session c) s)
-  text_is : text ≡ answer_by s.session c (fault_of s.session c)
+  told : accepted ≡ is_none (fault_of s.held c)
+  new_is : new ≡ slice_set seats place (kept_own c (fault_of s.held c) s)
+  text_is : text ≡ answer_by s.held c (fault_of s.held c)
 
 own_at : (old seats new : List Kept) (place : ℕ) (s : Kept) (c : CommandTree) (text : List ℕ) (accepted : Bool) → old ≡ seats →
     IsOwnAt place c old new text accepted → slice_get seats place ≡ Some s → OwnAt seats place s c new text accepted
@@ -172,31 +173,34 @@ module _ (d : ℕ) (seats : List Kept) (place : ℕ) (s : Kept) (c : CommandTree
   mine = own_at old seats new place s c text accepted same own at
 
   pub own_length : length new ≡ length seats
-  own_length = ap length (mine).new_is ∙ length-set seats place (kept_own c (fault_of s.session c) s)
+  own_length = ap length (mine).new_is ∙ length-set seats place (kept_own c (fault_of s.held c) s)
 
-  taken_new : fault_of s.session c ≡ None → new ≡ slice_set seats place (kept_own c None s)
+  pub own_slot : new ≡ slice_set seats place (kept_own c (fault_of s.held c) s)
+  own_slot = (mine).new_is
+
+  taken_new : fault_of s.held c ≡ None → new ≡ slice_set seats place (kept_own c None s)
   taken_new fault = (mine).new_is ∙ ap (λ o. slice_set seats place (kept_own c o s)) fault
 
   -- what the others are told of it
   pub others_may_be_told : (told : List Kept) → told ≡ new → (accepted && is_data c) ≡ true → All (MayBeTold s.user c) told
   others_may_be_told told e shared =
       let both = both_true accepted (is_data c) shared in
-      let fault = accepted_is (fault_of s.session c) accepted (mine).told both.0 in
+      let fault = accepted_is (fault_of s.held c) accepted (mine).told both.0 in
       subst (All (MayBeTold s.user c)) (sym (e ∙ taken_new fault)) (all_may_be_told d seats place s c reaches hub c_short room at both.1 fault)
 
   -- the sender has it as the last entry
   pub sender_has_sent : (told : List Kept) → told ≡ new → (accepted && is_data c) ≡ true → HasSentAt place s.user c told
   sender_has_sent told e shared =
       let both = both_true accepted (is_data c) shared in
-      let fault = accepted_is (fault_of s.session c) accepted (mine).told both.0 in
+      let fault = accepted_is (fault_of s.held c) accepted (mine).told both.0 in
       subst (λ (l : List Kept). HasSentAt place s.user c l) (sym (e ∙ taken_new fault)) (sent_at seats place s c both.1)
 
   pub shared_kept : (told final : List Kept) (n : ℕ) (before after : List ℕ) → told ≡ new → (accepted && is_data c) ≡ true → n ≡ d + 1 →
       AreTold s.user text c told final before after → AreKept place c d n seats final before after
   shared_kept told final n before after e shared more all =
       let both = both_true accepted (is_data c) shared in
-      let fault = accepted_is (fault_of s.session c) accepted (mine).told both.0 in
-      let words : text ≡ own_text s.session c = (mine).text_is ∙ ap (answer_by s.session c) fault in
+      let fault = accepted_is (fault_of s.held c) accepted (mine).told both.0 in
+      let words : text ≡ own_text s.held c = (mine).text_is ∙ ap (answer_by s.held c) fault in
       let from : AreTold s.user text c (slice_set seats place (kept_own c None s)) final before after =
       subst (λ l. AreTold s.user text c l final before after) (e ∙ taken_new fault) all in
       let one = data_carried d seats place s c reaches hub c_short room at text before after final both.1 fault words from in
@@ -205,15 +209,15 @@ module _ (d : ℕ) (seats : List Kept) (place : ℕ) (s : Kept) (c : CommandTree
       let long : length final ≡ length seats =
       ap length all.kept ∙ length-map told (kept_told s.user c) ∙ ap length e ∙ own_length in
       let some = some_kept seats place s at in
-      record { carried = carried; data_lines = lines_some n final (omega arith) carried.hub }
+      record { carried = carried; data_lines = lines_some n final (omega arith) carried.hub; some = omega arith }
 
   pub plain_done : (final : List Kept) (before after : List ℕ) → final ≡ new → (accepted && is_data c) ≡ false → after ≡ before ++ tagged s.user text →
       AreKept place c d d seats final before after
   plain_done final before after e shared said =
-      let r : Option Refusal = fault_of s.session c in
+      let r : Option Refusal = fault_of s.held c in
       let nothing = changes_nothing r c accepted (mine).told shared in
       let carried = plain_carried d seats place s c reaches hub c_short room at r before after final nothing refl (e ∙ (mine).new_is)
       (said ∙ ap (λ t. before ++ tagged s.user t) (mine).text_is) in
       let long : length final ≡ length seats = ap length e ∙ own_length in
       let some = some_kept seats place s at in
-      record { carried = carried; data_lines = lines_some d final (omega arith) carried.hub }
+      record { carried = carried; data_lines = lines_some d final (omega arith) carried.hub; some = omega arith }

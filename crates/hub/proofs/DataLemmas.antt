@@ -22,7 +22,7 @@ use Rattle.hub.proofs.KindLemmas.{no_regions, no_ticks, no_writes, of_data}
 
 -- ---- What a journal tells
 
-data_writes : (journal : List Accepted) → writes (data_entries journal) ≡ writes journal
+pub data_writes : (journal : List Accepted) → writes (data_entries journal) ≡ writes journal
 data_writes [] = refl
 data_writes (e ∷ journal) = elim (cases_Bool (is_data e.1)) [
   | inl is ↦ rw is (ap (λ ws. writes_of e.0 e.1 ++ ws) (data_writes journal))

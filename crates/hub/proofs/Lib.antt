@@ -13,5 +13,6 @@ pub mod LineLemmas
 pub mod CommandLemmas
 pub mod SentLemmas
 pub mod SeatedLemmas
+pub mod DeskLemmas
 pub mod ReplayLemmas
 pub mod SeatLemmas

@@ -10,7 +10,7 @@ use Rattle.command_text.specs.Text.{text_of}
 use Rattle.command_text.specs.Tree.{CommandTree}
 use Rattle.line_meaning.specs.Judging.{all_after, held_after}
 use Rattle.feeds_meaning.specs.Lines.{is_data}
-use Rattle.hub.specs.declared.seat.Seat.{Seat as Kept}
+use Rattle.hub.specs.Told.{HeldUser as Kept}
 use Rattle.hub.specs.Told.{HasLastLineAt, HasLineFor, HasSentAt, IsSender, kept_own}
 use Rattle.hub.proofs.KindLemmas.{of_data}
 use Rattle.exact.proofs.Lists.{bytes_eq_refl}
@@ -36,10 +36,10 @@ last_command journal more e is =
 sender_is : (s : Kept) (c : CommandTree) → is_data c ≡ true → IsSender s.user c (kept_own c None s)
 sender_is s c is =
     let d = of_data c is in
-    let entered : (held_after s.session c).journal ≡ s.session.journal ++ (clock s.session.journal, c) ∷ [] = rw d.kept refl in
+    let entered : (held_after s.held c).journal ≡ s.held.journal ++ (clock s.held.journal, c) ∷ [] = rw d.kept refl in
     record {
       user = refl;
-      last = last_command s.session.journal (all_after s.session c).journal (clock s.session.journal, c) (ap (λ h. h.journal) (d.same s.session) ∙ entered);
+      last = last_command s.held.journal (all_after s.held c).journal (clock s.held.journal, c) (ap (λ h. h.journal) (d.same s.held) ∙ entered);
     }
 
 set_there : (seats : List Kept) (place : ℕ) (k t : Kept) → slice_get (slice_set seats place k) place ≡ Some t → k ≡ t
@@ -66,8 +66,8 @@ some_entry [] c e = absurd (cc)
 some_entry (x ∷ journal) c e = omega arith
 
 pub sender_has_entry : (seats : List Kept) (place : ℕ) (sender : List ℕ) (c : CommandTree) → HasSentAt place sender c seats →
-    (s : Kept) → slice_get seats place ≡ Some s → 0 < length s.session.journal
-sender_has_entry seats place sender c sent s at = some_entry s.session.journal c (sent s at).last
+    (s : Kept) → slice_get seats place ≡ Some s → 0 < length s.held.journal
+sender_has_entry seats place sender c sent s at = some_entry s.held.journal c (sent s at).last
 
 -- a single user is the sender
 alone_sent : (x : Kept) (place : ℕ) (sender : List ℕ) (c : CommandTree) (line : List ℕ) → place < 1 → HasSentAt place sender c (x ∷ []) →
@@ -82,7 +82,7 @@ line_at : (seats : List Kept) (place : ℕ) (sender : List ℕ) (c : CommandTree
 line_at seats place sender c line d inside sent is =
     let s : Kept = get_or seats place d in
     let at : slice_get seats place ≡ Some s = slice_get-get_or seats place d inside in
-    entry_line (slice_get s.session.journal (length s.session.journal - 1)) c line (sent s at).last (is s at)
+    entry_line (slice_get s.held.journal (length s.held.journal - 1)) c line (sent s at).last (is s at)
 
 all_have : (sender : List ℕ) (c : CommandTree) (line : List ℕ) → line ≡ text_of c → (seats : List Kept) → AllByRecursion (HasLineFor sender c line) seats
 all_have sender c line is [] = tt

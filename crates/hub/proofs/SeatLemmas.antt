@@ -1,7 +1,9 @@
 -- What a command leaves of one session, by what carrying it out does.
-use Rattle.std.proofs.Common.{◌≡◌, ℕ, true, false, Bool, List, ◌++◌, None, Some, refl, sym, ap, ◌∙◌, subst, append_assoc}
+use Rattle.std.specs.Prelude.{◌&&◌}
+use Rattle.std.proofs.Common.{◌≡◌, ℕ, true, false, Bool, List, [], ◌++◌, None, Some, refl, sym, ap, ◌∙◌, subst, append_assoc}
 use Rattle.command_text.specs.declared.refusal.Refusal.{Refusal}
 use Rattle.command_text.specs.Refusals.{refusal_line}
+use Rattle.command_text.specs.Tree
 use Rattle.command_text.specs.Tree.{CommandTree}
 use Rattle.line_meaning.specs.declared.role.Role.{Role}
 use Rattle.line_meaning.specs.declared.role.Role.TheVariants.{Blank, Journalled, Telling, Indexing, Filing, Ending}
@@ -12,7 +14,10 @@ use Rattle.line_meaning.specs.Step.{reply_by}
 use Rattle.session.specs.declared.next.Next.{Next}
 use Rattle.session.specs.declared.next.Next.TheVariants as nexts
 use Rattle.session.specs.Answers.{next_by, next_of}
-use Rattle.session.specs.Carried.{CarriedAs, IsAccepted, lines_by}
+use Rattle.session.specs.declared.sharing.Shared.{Shared}
+use Rattle.session.specs.Carried.{CarriedAs, IsAccepted, is_on_data, lines_by}
+use Rattle.session.specs.Sharing.{LeavesOthers}
+use Rattle.hub.specs.Desks.{LeavesDesks}
 use Rattle.feeds_meaning.specs.Lines.{is_data, notice}
 use Rattle.hub.specs.Answering.{Finishes, IsOther, IsOwn, answer_by}
 use Rattle.hub.proofs.KindLemmas.{of_data}
@@ -33,6 +38,34 @@ silent Telling h c is = absurd (cc)
 silent Indexing h c is = absurd (cc)
 silent Filing h c is = absurd (cc)
 silent Ending h c is = absurd (cc)
+
+-- ---- What it leaves of the others
+
+pub data_alike : (c : CommandTree) → is_on_data c ≡ is_data c
+data_alike (Tree.Class name capacity point attributes) = refl
+data_alike (Tree.Region name points) = refl
+data_alike (Tree.Insert class name place sets) = refl
+data_alike (Tree.Update name place sets) = refl
+data_alike (Tree.Remove name) = refl
+data_alike (Tree.Tick ticks) = refl
+data_alike (Tree.Watch name span q) = refl
+data_alike (Tree.Keep name span q) = refl
+data_alike (Tree.Drop name) = refl
+data_alike (Tree.Show name) = refl
+data_alike c = refl
+
+pub leaves_desks : (next : Next) (lines text : List ℕ) (accepted : Bool) (c : CommandTree) (old new : Shared) → Finishes next lines text accepted →
+    LeavesOthers next c old new → LeavesDesks (accepted && is_data c) c old new
+leaves_desks (nexts.Refused r) lines text accepted c old new ends leaves =
+    subst (λ b. LeavesDesks (b && is_data c) c old new) (sym ends.0) leaves
+leaves_desks nexts.Silent lines text accepted c old new ends leaves =
+    subst (λ b. LeavesDesks (b && is_data c) c old new) (sym ends.0) (subst (λ b. LeavesDesks b c old new) (data_alike c) leaves)
+leaves_desks nexts.Accepted lines text accepted c old new ends leaves =
+    subst (λ b. LeavesDesks (b && is_data c) c old new) (sym ends.0) (subst (λ b. LeavesDesks b c old new) (data_alike c) leaves)
+leaves_desks nexts.Quit lines text accepted c old new ends leaves =
+    subst (λ b. LeavesDesks (b && is_data c) c old new) (sym ends.0) (subst (λ b. LeavesDesks b c old new) (data_alike c) leaves)
+
+-- ---- What is told of it
 
 module _ (c : CommandTree) (old new : Held) where
   own_refused : (refusal : Refusal) (text : List ℕ) → fault_of old c ≡ Some refusal → new ≡ old → text ≡ refusal_line refusal ++ line_feed →
@@ -75,15 +108,13 @@ module _ (c : CommandTree) (old new : Held) where
       subst (IsOwn c old new text) (sym ends.0) (own_ended lines text (quit_is_loud carried.0) carried.1 ends.1)
 
   -- a data command that what is held doesn't refuse
-  other_accepted : (text : List ℕ) → IsAccepted c old new (notice old c) text → is_data c ≡ true → IsOther c old new text
+  pub other_accepted : (text : List ℕ) → IsAccepted c old new (notice old c) text → is_data c ≡ true → IsOther c old new text
   other_accepted text taken data_is = record {
     held_is = taken.goes_on ∙ (of_data c data_is).same old;
     text_is = taken.said ∙ ap (λ r. notice old c ++ lines_by r old c) (of_data c data_is).keeping;
   }
 
-  pub other_taken : (next : Next) (text : List ℕ) → CarriedAs next c old new (notice old c) text → fault_of old c ≡ None → is_data c ≡ true →
+  pub other_followed : (start before text : List ℕ) → start ≡ [] → before ≡ start ++ notice old c → IsAccepted c old new before text → is_data c ≡ true →
       IsOther c old new text
-  other_taken (nexts.Refused r) text carried accepted data_is = let bad = sym accepted ∙ carried.0 in absurd (cc)
-  other_taken nexts.Silent text carried accepted data_is = other_accepted text carried.1 data_is
-  other_taken nexts.Accepted text carried accepted data_is = other_accepted text carried.1 data_is
-  other_taken nexts.Quit text carried accepted data_is = other_accepted text carried.1 data_is
+  other_followed start before text none said taken data_is =
+      other_accepted text (subst (λ (l : List ℕ). IsAccepted c old new l text) (said ∙ ap (λ l. l ++ notice old c) none) taken) data_is

@@ -16,9 +16,9 @@ use Rattle.users.specs.declared.sender.TheConstants.{USER_LIMIT}
 use Rattle.feeds_meaning.specs.declared.limits.TheConstants.{DATA_LINES_LIMIT, USERS_LIMIT}
 use Rattle.feeds_meaning.specs.Hub.{Seated, has_room, has_user, newcomer, seat_in, seats_with}
 use Rattle.feeds_meaning.specs.Lines.{is_data}
-use Rattle.hub.specs.declared.seat.Seat.{Seat as Kept}
+use Rattle.hub.specs.Told.{HeldUser as Kept}
 use Rattle.hub.specs.Seats.{AreDistinctUsers, IsHub, IsUser, accepted_in, data_commands, data_entries}
-use Rattle.hub.specs.Told.{IsSeatedAs, arrived, seated}
+use Rattle.hub.specs.Told.{IsSeatedAs, arrived, data_journal, seated}
 use Rattle.hub.proofs.CommandLemmas.{hub_by, seated_at}
 use Rattle.hub.proofs.DataLemmas.{data_more, replayed_holds, replayed_is_taken}
 use Rattle.hub.proofs.NewcomerLemmas.{newcomer_asks, newcomer_counts, newcomer_holds}
@@ -145,6 +145,11 @@ reached_from reaches before (e ∷ later) reached all =
           subst (AreReached []) (sym none) all
     ]
 
+pub data_reached : (d : ℕ) (seats : List Kept) → ReachesMore → AllByRecursion (IsUser (accepted_in (map (seated d) seats))) (map (seated d) seats) →
+    AreReached [] (data_journal seats)
+data_reached d [] reaches users = tt
+data_reached d (s ∷ seats) reaches users = reached_from reaches [] s.held.journal users.0.reached tt
+
 twice : (journal : List Accepted) → data_entries (data_entries journal) ≡ data_entries journal
 twice [] = refl
 twice (e ∷ journal) = elim (cases_Bool (is_data e.1)) [
@@ -171,25 +176,21 @@ of_all (s ∷ seats) reaches users =
     } in
     subst (IsOfAll (data_commands j)) (sym is) here
 
--- it is what is replayed of the first user
-pub newcomer_of_first : (d : ℕ) (seats : List Kept) (s : Kept) (journal : List Accepted) → slice_get seats 0 ≡ Some s → journal ≡ s.session.journal →
-    AllByRecursion (IsUser (accepted_in (map (seated d) seats))) (map (seated d) seats) →
-    held (data_entries journal) ≡ (newcomer (accepted_in (map (seated d) seats))).held
-newcomer_of_first d [] s journal e j users = absurd (cc)
-newcomer_of_first d (x ∷ seats) s journal e j users =
-    let same : s ≡ x = let back : x ≡ s = cc in sym back in
-    let all : journal ≡ x.session.journal = j ∙ ap (λ (y : Kept). y.session.journal) same in
-    ap (λ l. held (data_entries l)) all ∙ sym (newcomer_holds x.session.journal users.0.reached)
+-- it is what is copied of the first user
+pub newcomer_of_users : (d : ℕ) (seats : List Kept) → AllByRecursion (IsUser (accepted_in (map (seated d) seats))) (map (seated d) seats) →
+    held (data_journal seats) ≡ (newcomer (accepted_in (map (seated d) seats))).held
+newcomer_of_users d [] users = sym (newcomer_holds [] tt)
+newcomer_of_users d (s ∷ seats) users = sym (newcomer_holds s.held.journal users.0.reached)
 
 -- ---- A newcomer gets a place
 
 -- as the definition has a newcomer whose line has come
 pub record IsNew (user : List ℕ) (accepted : List CommandTree) (k : Kept) : Type 0 where
   pub named : k.user ≡ user
-  pub held_is : k.session ≡ (newcomer accepted).held
+  pub held_is : k.held ≡ (newcomer accepted).held
   pub asks : k.query_lines ≡ 0
 
-pub is_new : (user : List ℕ) (accepted : List CommandTree) (k : Kept) → k.user ≡ user → k.session ≡ (newcomer accepted).held → k.query_lines ≡ 0 →
+pub is_new : (user : List ℕ) (accepted : List CommandTree) (k : Kept) → k.user ≡ user → k.held ≡ (newcomer accepted).held → k.query_lines ≡ 0 →
     IsNew user accepted k
 is_new user accepted k named held_is asks = record { named = named; held_is = held_is; asks = asks }
 
@@ -242,7 +243,7 @@ module _ (user : List ℕ) (d : ℕ) (seats : List Kept) (k : Kept) (reaches : R
   new_user =
       let all : IsOfAll (hub_by d seats).accepted (newcomer (hub_by d seats).accepted).held =
       of_all (map (seated d) seats) reaches (subst (λ a. AllByRecursion (IsUser a) (map (seated d) seats)) hub.accepted_is hub.users) in
-      let mine : IsOfAll (hub_by d seats).accepted k.session = subst (IsOfAll (hub_by d seats).accepted) (sym new.held_is) all in
+      let mine : IsOfAll (hub_by d seats).accepted k.held = subst (IsOfAll (hub_by d seats).accepted) (sym new.held_is) all in
       let long = mine.long in
       let asks = new.asks in
       record {

@@ -17,7 +17,7 @@ use Rattle.feeds_meaning.specs.declared.limits.TheConstants.{DATA_LINES_LIMIT, Q
 use Rattle.feeds_meaning.specs.Heard.{Seat, command_refusal, limit_refusal, own_refusal}
 use Rattle.feeds_meaning.specs.Hub.{Hub, Seated, has_user}
 use Rattle.feeds_meaning.specs.Lines.{is_barred, is_data_line, is_query_line}
-use Rattle.hub.specs.declared.seat.Seat.{Seat as Kept}
+use Rattle.hub.specs.Told.{HeldUser as Kept}
 use Rattle.hub.specs.Judging.{CanBeCounted, IsTaken, is_one_too_many, refusal_by_line}
 use Rattle.hub.specs.Seats.{IsHub, IsUser}
 use Rattle.hub.specs.Told.{HasRoomAt, IsAnsweredAt, IsAnsweredBy, IsSentAt, seated, seated_by}
@@ -76,7 +76,7 @@ module _ (d : ℕ) (seats : List Kept) (place : ℕ) (s : Kept) (hub : IsHub (hu
       IsAnsweredAt place c (hub_by d seats) new before after → IsSentAt place line (hub_by d seats) new before after
   sent_of_command line c new before after taken answered = λ x found.
       let same : seated d s ≡ x = one_there (slice_get (map (seated d) seats) place) (seated d s) x (seated_at d seats place s at) found in
-      let here : own_refusal s_seat line ≡ fault_of s.session c = taken_refusal s_seat line c taken in
+      let here : own_refusal s_seat line ≡ fault_of s.held c = taken_refusal s_seat line c taken in
       let judged : own_refusal x.seat line ≡ fault_of x.seat.held c =
       subst (λ (y : Seated). own_refusal y.seat line ≡ fault_of y.seat.held c) same here in
       let is : spelled line ≡ c = read_is LINE_LIMIT line c taken.read in

@@ -6,7 +6,7 @@ use Rattle.std.proofs.lemmas.List.Elements.{All-get_or}
 use Rattle.command_text.specs.Tree.{CommandTree}
 use Rattle.reply_text.specs.Begins.{Begins}
 use Rattle.reply_text.proofs.BeginLemmas.{begins_through}
-use Rattle.hub.specs.declared.seat.Seat.{Seat as Kept}
+use Rattle.hub.specs.Told.{HeldUser as Kept}
 use Rattle.hub.specs.Told.{AreTold, kept_told, told_kept}
 
 -- so many at the front are changed

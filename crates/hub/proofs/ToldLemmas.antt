@@ -10,7 +10,7 @@ use Rattle.feeds_meaning.specs.Heard.{own_text}
 use Rattle.feeds_meaning.specs.Hub.{Seated, has_user}
 use Rattle.feeds_meaning.specs.Lines.{is_data}
 use Rattle.hub.specs.Answering.{answer_by}
-use Rattle.hub.specs.declared.seat.Seat.{Seat as Kept}
+use Rattle.hub.specs.Told.{HeldUser as Kept}
 use Rattle.hub.specs.Told.{change_by, kept_own, kept_told, seated, seated_by, told_kept, told_to_seat}
 use Rattle.hub.proofs.PlaceLemmas.{IsAloneAt}
 use Rattle.exact.proofs.Lists.{bytes_eq_true}
@@ -51,13 +51,13 @@ module _ (user : List ℕ) (c : CommandTree) (d : ℕ) where
       λ i. here i ++ later i
 
   pub data_told : (own : List ℕ) (seats : List Kept) (place : ℕ) (s : Kept) → is_data c ≡ true → IsAloneAt user place (map (seated d) seats) →
-      slice_get seats place ≡ Some s → own ≡ own_text s.session c →
+      slice_get seats place ≡ Some s → own ≡ own_text s.held c →
       flat_map (told_kept user own c) (slice_set seats place (kept_own c None s)) ≡ flat_map (told_to_seat user c None) (map (seated d) seats)
   data_told own [] place s is at e o = absurd at
   data_told own (t ∷ seats) zero s is at e o =
       let same : t ≡ s = cc in
       let later = others_told own seats is at.1 in
-      let text : own ≡ own_text t.session c = o ∙ ap (λ (x : Kept). own_text x.session c) (sym same) in
+      let text : own ≡ own_text t.held c = o ∙ ap (λ (x : Kept). own_text x.held c) (sym same) in
       let here : told_kept user own c (kept_own c None t) ≡ told_to_seat user c None (seated d t) = rw at.0 (ap (tagged t.user) text) in
       let both : told_kept user own c (kept_own c None s) ≡ told_to_seat user c None (seated d t) =
       subst (λ (x : Kept). told_kept user own c (kept_own c None x) ≡ told_to_seat user c None (seated d t)) same here in
@@ -106,17 +106,17 @@ module _ (user : List ℕ) (c : CommandTree) (d : ℕ) where
       let here : told_to_seat user c r t ≡ [] = rw (others.0, nothing) refl in
       ap (λ l. l ++ flat_map (told_to_seat user c r) seats) here ∙ others_silent r seats nothing others.1
 
-  own_said : (r : Option Refusal) (s : Kept) → has_user user (seated d s) ≡ true → told_to_seat user c r (seated d s) ≡ tagged user (answer_by s.session c r)
-  own_said (Some refusal) s own = rw own (ap (λ u. tagged u (answer_by s.session c (Some refusal))) (sym (bytes_eq_true user s.user own)))
-  own_said None s own = rw own (ap (λ u. tagged u (answer_by s.session c None)) (sym (bytes_eq_true user s.user own)))
+  own_said : (r : Option Refusal) (s : Kept) → has_user user (seated d s) ≡ true → told_to_seat user c r (seated d s) ≡ tagged user (answer_by s.held c r)
+  own_said (Some refusal) s own = rw own (ap (λ u. tagged u (answer_by s.held c (Some refusal))) (sym (bytes_eq_true user s.user own)))
+  own_said None s own = rw own (ap (λ u. tagged u (answer_by s.held c None)) (sym (bytes_eq_true user s.user own)))
 
   pub plain_told : (r : Option Refusal) (seats : List Kept) (place : ℕ) (s : Kept) → change_by c r ≡ None → IsAloneAt user place (map (seated d) seats) →
-      slice_get seats place ≡ Some s → flat_map (told_to_seat user c r) (map (seated d) seats) ≡ tagged user (answer_by s.session c r)
+      slice_get seats place ≡ Some s → flat_map (told_to_seat user c r) (map (seated d) seats) ≡ tagged user (answer_by s.held c r)
   plain_told r [] place s nothing at e = absurd at
   plain_told r (t ∷ seats) zero s nothing at e =
       let same : t ≡ s = cc in
       let silent = others_silent r (map (seated d) seats) nothing at.1 in
-      (λ i. own_said r t at.0 i ++ silent i) ∙ append-nil (tagged user (answer_by t.session c r)) ∙ ap (λ (x : Kept). tagged user (answer_by x.session c r)) same
+      (λ i. own_said r t at.0 i ++ silent i) ∙ append-nil (tagged user (answer_by t.held c r)) ∙ ap (λ (x : Kept). tagged user (answer_by x.held c r)) same
   plain_told r (t ∷ seats) (suc place) s nothing at e =
       let here : told_to_seat user c r (seated d t) ≡ [] = rw (at.0, nothing) refl in
       ap (λ l. l ++ flat_map (told_to_seat user c r) (map (seated d) seats)) here ∙ plain_told r seats place s nothing at.1 e

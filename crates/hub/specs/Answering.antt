@@ -4,6 +4,7 @@ use Rattle.command_text.specs.declared.refusal.Refusal.{Refusal}
 use Rattle.command_text.specs.Journal.{spelled}
 use Rattle.command_text.specs.Line.{IsRead}
 use Rattle.command_text.specs.Refusals.{refusal_line}
+use Rattle.command_text.specs.Text.{text_of}
 use Rattle.command_text.specs.Tree.{CommandTree}
 use Rattle.line_meaning.specs.Judging.{Held, all_after, fault_of, held_after}
 use Rattle.line_meaning.specs.Reply.{line_feed, name_text, ok_line}
@@ -49,4 +50,4 @@ pub record IsOther (c : CommandTree) (old new : Held) (text : List ℕ) : Type 0
 -- the canonical line of a command that a journal has
 pub record IsEntryLine (line : List ℕ) : Type 0 where
   pub read : IsRead SESSION_LINE_LIMIT line (spelled line)
-  pub legible : IsLegible (spelled line)
+  pub canonical : text_of (spelled line) ≡ line

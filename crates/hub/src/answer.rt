@@ -1,5 +1,6 @@
 //! What is written of a line.
 ghost use Rattle.std.specs.Prelude.{◌≡◌, ◌+◌, ◌&&◌, ◌++◌, ◌<◌, All, Some, true, codes, length, slice_get, OnOk};
+ghost use Rattle.std.specs.List.{AllByRecursion};
 ghost use Rattle.command_text.specs.Refusals.{refusal_line};
 ghost use Rattle.command_text.specs.Tree.{command_view};
 ghost use Rattle.line_meaning.specs.Reply.{line_feed};
@@ -8,18 +9,20 @@ ghost use Rattle.feeds_meaning.specs.declared.limits.TheConstants.{DATA_LINES_LI
 ghost use Rattle.feeds_meaning.specs.Lines.{is_data};
 ghost use Rattle.hub.specs.Answering.{MayBeGiven};
 ghost use Rattle.hub.specs.declared.seat.Seat.{Seat as Kept};
-ghost use Rattle.hub.specs.Told.{AreRightParts, AreTold, HasLastLineAt, HasLineFor, HasRoomAt, HasSentAt, IsAnsweredAt, IsLastLine, IsLineTold, IsRefusedAt, IsSentAt, MayBeTold, hub_of, kept_told, told_kept};
+ghost use Rattle.hub.specs.Told.{AreRightParts, AreTold, HasLastLineAt, HasLineFor, HasRoomAt, HasSentAt, IsAnsweredAt, IsLastLine, IsLineTold, IsRefusedAt, IsSentAt, MayBeTold, held_user, held_users, hub_of, kept_told, told_kept};
+ghost use Rattle.hub.specs.Desks.{AreToFollow, IsRightSeat, IsToFollow};
+ghost use Rattle.session.specs.Sharing.{IsSameFor, held_at};
 
 use crate::judging::read_own;
 use crate::kinds::is_data;
 use crate::newcomer::seat_for;
 use crate::notice::{push, push_refusal};
 use crate::parts::Parts;
-use crate::seat::{Seat, answer_at, answer_other};
+use crate::seat::{Seat, Taken, answer_at, answer_other};
 use command_text::{Command, CommandFault, Journal, Refusal};
 use fixed_point::Word;
 use line_meaning::steps_write_what_is_accepted;
-use session::read_commands_are_legible;
+use session::{Shared, read_commands_are_legible};
 use std::alloc::AllocError;
 use std::sync::ledger::Ledger;
 use steps::Steps;
@@ -35,20 +38,10 @@ fn push_unheard(refusal: Refusal, out: &mut Vec<u8>) -> Result<(), AllocError>
     push_refusal(refusal, out)
 }
 
-/// A data command that was accepted of its sender and carried out for the sender.
-#[derive(Clone, Copy)]
-struct Taken<'a> {
-    sender: &'a Word,
-    command: &'a Command,
-    // Its canonical line, where there are others.
-    line: &'a [u8],
-    // The reply to the sender.
-    own: &'a [u8],
-}
-
 /// Writes what one user is told of a data command that was accepted: the sender the reply, any other what the command
 /// changes.
 fn tell_one<L: Ledger, M: Ledger>(
+    shared: &mut Shared,
     seat: &mut Seat,
     taken: &Taken,
     other: &mut Vec<u8>,
@@ -58,22 +51,25 @@ fn tell_one<L: Ledger, M: Ledger>(
 ) -> Result<(), AllocError>
     requires given { MayBeGiven (command_view taken.now.command.now) }
     requires shared { is_data (command_view taken.now.command.now) ≡ true }
-    requires told { MayBeTold taken.now.sender.now (command_view taken.now.command.now) seat.old }
-    requires line { HasLineFor taken.now.sender.now (command_view taken.now.command.now) taken.now.line.now seat.old }
-    ensures kept { OnOk result (seat.new ≡ kept_told taken.now.sender.now (command_view taken.now.command.now) seat.old) }
-    ensures said { OnOk result (out.new.items ≡ out.old.items ++ told_kept taken.now.sender.now taken.now.own.now (command_view taken.now.command.now) seat.old) }
+    requires told { MayBeTold taken.now.sender.now (command_view taken.now.command.now) (held_user seat.old) }
+    requires line { HasLineFor taken.now.sender.now (command_view taken.now.command.now) taken.now.line.now (held_user seat.old) }
+    requires behind { IsToFollow taken.now.sender.now (command_view taken.now.command.now) shared.old seat.old }
+    ensures kept { OnOk result (held_user seat.new ≡ kept_told taken.now.sender.now (command_view taken.now.command.now) (held_user seat.old)) }
+    ensures said { OnOk result (out.new.items ≡ out.old.items ++ told_kept taken.now.sender.now taken.now.own.now (command_view taken.now.command.now) (held_user seat.old)) }
     ensures begins { Begins out.old.items out.new.items }
+    ensures right { OnOk result (IsRightSeat shared.new seat.new) }
+    ensures same { IsSameFor shared.old shared.new }
 {
     if *taken.sender == seat.user {
         return push_tagged(seat.user.bytes(), taken.own, out);
     }
-    let (command, line) = (taken.command, taken.line);
-    answer_other(&mut seat.session, command, line, other, reads, probes)?;
+    answer_other(shared, &mut seat.desk, taken, other, reads, probes)?;
     push_tagged(seat.user.bytes(), other, out)
 }
 
 /// Writes what each user is told of a data command that was accepted.
 fn tell_all<L: Ledger, M: Ledger>(
+    shared: &mut Shared,
     seats: &mut [Seat],
     taken: &Taken,
     other: &mut Vec<u8>,
@@ -83,14 +79,17 @@ fn tell_all<L: Ledger, M: Ledger>(
 ) -> Result<(), AllocError>
     requires given { MayBeGiven (command_view taken.now.command.now) }
     requires shared { is_data (command_view taken.now.command.now) ≡ true }
-    requires told { All (MayBeTold taken.now.sender.now (command_view taken.now.command.now)) seats.old }
-    requires line { All (HasLineFor taken.now.sender.now (command_view taken.now.command.now) taken.now.line.now) seats.old }
-    ensures told { OnOk result (AreTold taken.now.sender.now taken.now.own.now (command_view taken.now.command.now) seats.old seats.new out.old.items out.new.items) }
+    requires told { All (MayBeTold taken.now.sender.now (command_view taken.now.command.now)) (held_users seats.old) }
+    requires line { All (HasLineFor taken.now.sender.now (command_view taken.now.command.now) taken.now.line.now) (held_users seats.old) }
+    requires behind { AreToFollow taken.now.sender.now (command_view taken.now.command.now) shared.old seats.old }
+    ensures told { OnOk result (AreTold taken.now.sender.now taken.now.own.now (command_view taken.now.command.now) (held_users seats.old) (held_users seats.new)
+        out.old.items out.new.items) }
     ensures begins { Begins out.old.items out.new.items }
+    ensures right { OnOk result (AllByRecursion (IsRightSeat shared.new) seats.new) }
 {
     let mut place = 0;
     'seats: while place < seats.len() {
-        tell_one(&mut seats[place], taken, other, out, reads, probes)?;
+        tell_one(shared, &mut seats[place], taken, other, out, reads, probes)?;
         place += 1;
     }
     Ok(())
@@ -104,13 +103,13 @@ fn put_line<L: Ledger>(
     reads: &mut Steps<L>,
 ) -> Result<(), AllocError>
     requires there { place < length seats.now }
-    requires some { (s : Kept) → slice_get seats.now place ≡ Some s → 0 < length s.session.journal }
-    ensures { OnOk result (1 < length seats.now → HasLastLineAt place seats.now line.new.items) }
+    requires some { (s : Kept) → slice_get seats.now place ≡ Some s → 0 < length (held_at s.desk).journal }
+    ensures { OnOk result (1 < length seats.now → HasLastLineAt place (held_users seats.now) line.new.items) }
 {
     if seats.len() <= 1 {
         return Ok(());
     }
-    put_last(seats[place].session.journal(), line, reads)
+    put_last(seats[place].desk.journal(), line, reads)
 }
 
 /// Puts the last line of a journal into `line`.
@@ -142,16 +141,19 @@ fn tell_data<L: Ledger, M: Ledger>(
 ) -> Result<(), AllocError>
     requires given { MayBeGiven (command_view command.now) }
     requires shared { is_data (command_view command.now) ≡ true }
-    requires told { All (MayBeTold sender.now (command_view command.now)) parts.old.seats.items }
+    requires told { All (MayBeTold sender.now (command_view command.now)) (held_users parts.old.seats.items) }
     requires there { place < length parts.old.seats.items }
-    requires sent { HasSentAt place sender.now (command_view command.now) parts.old.seats.items }
+    requires sent { HasSentAt place sender.now (command_view command.now) (held_users parts.old.seats.items) }
     requires few { parts.old.data_lines < DATA_LINES_LIMIT }
-    ensures told { OnOk result (AreTold sender.now parts.old.own.items (command_view command.now) parts.old.seats.items parts.new.seats.items
-        out.old.items out.new.items) }
+    requires behind { AreToFollow sender.now (command_view command.now) parts.old.shared parts.old.seats.items }
+    ensures told { OnOk result (AreTold sender.now parts.old.own.items (command_view command.now) (held_users parts.old.seats.items)
+        (held_users parts.new.seats.items) out.old.items out.new.items) }
+    ensures right { OnOk result (AllByRecursion (IsRightSeat parts.new.shared) parts.new.seats.items) }
     ensures counted { OnOk result (parts.new.data_lines ≡ parts.old.data_lines + 1) }
     ensures begins { Begins out.old.items out.new.items }
 {
     let Parts {
+        shared,
         seats,
         line,
         own,
@@ -166,7 +168,7 @@ fn tell_data<L: Ledger, M: Ledger>(
         line,
         own,
     };
-    tell_all(seats, &taken, other, out, reads, probes)?;
+    tell_all(shared, seats, &taken, other, out, reads, probes)?;
     *data_lines += 1;
     Ok(())
 }
@@ -199,6 +201,7 @@ fn answer_command<L: Ledger, M: Ledger>(
     steps_write_what_is_accepted();
     let sender = parts.seats[place].user;
     let accepted = answer_at(
+        &mut parts.shared,
         &mut parts.seats,
         place,
         command,
@@ -246,8 +249,9 @@ fn push_refused(
 ) -> Result<(), AllocError>
     requires hub { AreRightParts parts.old }
     requires there { place < length parts.old.seats.items }
-    ensures said { OnOk result (IsRefusedAt place refusal parts.old.seats.items out.old.items out.new.items) }
+    ensures said { OnOk result (IsRefusedAt place refusal (held_users parts.old.seats.items) out.old.items out.new.items) }
     ensures same { (parts.new.seats ≡ parts.old.seats) × (parts.new.data_lines ≡ parts.old.data_lines) }
+    ensures shared { parts.new.shared ≡ parts.old.shared }
     ensures begins { Begins out.old.items out.new.items }
 {
     parts.own.clear();
@@ -297,7 +301,7 @@ pub(crate) fn answer_line<L: Ledger, M: Ledger>(
     let Some((user, own_line)) = sent_in(line) else {
         return push_unheard(Refusal::BadSyntax, out);
     };
-    match seat_for(parts, user, reads, probes)? {
+    match seat_for(parts, user, reads)? {
         Some(place) => answer_sent(parts, place, own_line, out, reads, probes),
         None => push_unheard(Refusal::StoreFull, out),
     }

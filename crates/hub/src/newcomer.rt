@@ -1,14 +1,13 @@
 //! A user's first line.
-ghost use Rattle.std.specs.Prelude.{◌≡◌, ◌≤◌, [], true, IfOk, None, OnOk, bytes_eq, length, map, nat_le, position, if◌then◌else◌};
+ghost use Rattle.std.specs.Prelude.{◌≡◌, ◌≤◌, ◌++◌, ◌∷◌, [], true, IfOk, None, OnOk, bytes_eq, length, map, nat_le, position, if◌then◌else◌};
 ghost use Rattle.command_text.specs.Journal.{spelled};
-ghost use Rattle.line_meaning.specs.Judging.{fault_of, held, held_after};
+ghost use Rattle.line_meaning.specs.Judging.{fault_of, held};
 ghost use Rattle.line_meaning.specs.Reached.{AreReached};
 ghost use Rattle.feeds_meaning.specs.declared.limits.TheConstants.{USERS_LIMIT};
-ghost use Rattle.feeds_meaning.specs.Hub.{newcomer};
 ghost use Rattle.feeds_meaning.specs.Lines.{is_data};
 ghost use Rattle.hub.specs.Answering.{IsEntryLine};
 ghost use Rattle.hub.specs.Seats.{IsHub, accepted_in, data_entries};
-ghost use Rattle.hub.specs.Told.{AreRightParts, IsSeatedAs, hub_of, seated};
+ghost use Rattle.hub.specs.Told.{AreRightParts, IsSeatedAs, data_journal, held_users, hub_of, seated};
 ghost use Rattle.users.specs.declared.sender.TheConstants.{USER_LIMIT};
 
 use crate::kinds::is_data;
@@ -18,72 +17,66 @@ use command_text::{CommandFault, Journal, LineReader, canonical_lines_are_read_b
 use feeds_meaning::USERS_LIMIT;
 use fixed_point::Word;
 use line_meaning::steps_write_what_is_accepted;
-use session::Session;
+use session::Desk;
 use session_file::SESSION_LINE_LIMIT;
 use std::alloc::{AllocError, Global};
 use std::sync::ledger::Ledger;
 use steps::Steps;
 
-/// Carries out the command of a canonical line, where it is a data command.
-fn replay_line<L: Ledger, M: Ledger>(
+/// Adds the entry of a canonical line to a journal, where it is one of a data command.
+fn copy_entry(
     reader: &mut LineReader,
+    tick: u32,
     line: &[u8],
-    session: &mut Session,
-    reads: &mut Steps<L>,
-    probes: &mut Steps<M>,
+    copy: &mut Journal,
 ) -> Result<(), AllocError>
     requires line { IsEntryLine line.now }
-    requires accepted { is_data (spelled line.now) ≡ true → fault_of (held session.old.journal) (spelled line.now) ≡ None }
-    ensures { OnOk result (session.new ≡ (if is_data (spelled line.now) then held_after session.old (spelled line.now) else session.old)) }
+    requires accepted { is_data (spelled line.now) ≡ true → fault_of (held copy.old) (spelled line.now) ≡ None }
+    ensures { OnOk result (copy.new ≡ (if is_data (spelled line.now) then copy.old ++ (tick, spelled line.now) ∷ [] else copy.old)) }
 {
     match reader.read(line, SESSION_LINE_LIMIT) {
-        Ok(command) if is_data(&command) => {
-            session.replay(command, reads, probes)?;
-            Ok(())
-        }
+        Ok(command) if is_data(&command) => copy.push(tick, line),
         Ok(_) => Ok(()),
         Err(CommandFault::Refused(_)) => unreachable!(),
         Err(CommandFault::NoMemory) => Err(AllocError),
     }
 }
 
-/// A session after the data commands of another one's journal.
-fn replayed<L: Ledger, M: Ledger>(
+/// The journal of the data commands of another one.
+fn copied<L: Ledger>(
     alloc: Global,
     reader: &mut LineReader,
     journal: &Journal,
     reads: &mut Steps<L>,
-    probes: &mut Steps<M>,
-) -> Result<Session, AllocError>
+) -> Result<Journal, AllocError>
     requires { AreReached [] journal.now }
-    ensures { IfOk result (λ session. session ≡ held (data_entries journal.now)) }
+    ensures { IfOk result (λ copy. copy ≡ data_entries journal.now) }
 {
     // A call that does nothing, whose contract says that each line is read again as its command.
     canonical_lines_are_read_back();
-    let mut session = Session::new(alloc);
+    let mut copy = Journal::new(alloc);
     let mut place = 0;
-    'entries: while let Some((_, line)) = journal.entry(place, reads) {
-        replay_line(reader, line, &mut session, reads, probes)?;
+    'entries: while let Some((tick, line)) = journal.entry(place, reads) {
+        copy_entry(reader, tick, line, &mut copy)?;
         place += 1;
     }
-    Ok(session)
+    Ok(copy)
 }
 
-/// The session of a user who sent no line yet.
-fn new_session<L: Ledger, M: Ledger>(
+/// The journal of a user who sent no line yet.
+fn new_journal<L: Ledger>(
     alloc: Global,
     reader: &mut LineReader,
     seats: &[Seat],
     data_lines: u32,
     reads: &mut Steps<L>,
-    probes: &mut Steps<M>,
-) -> Result<Session, AllocError>
-    requires { IsHub (record { seats = map (seated data_lines) seats.now; accepted = accepted_in (map (seated data_lines) seats.now) }) }
-    ensures { IfOk result (λ session. session ≡ (newcomer (accepted_in (map (seated data_lines) seats.now))).held) }
+) -> Result<Journal, AllocError>
+    requires { IsHub (record { seats = map (seated data_lines) (held_users seats.now); accepted = accepted_in (map (seated data_lines) (held_users seats.now)) }) }
+    ensures { IfOk result (λ journal. journal ≡ data_journal (held_users seats.now)) }
 {
     match seats.first() {
-        Some(seat) => replayed(alloc, reader, seat.session.journal(), reads, probes),
-        None => Ok(Session::new(alloc)),
+        Some(seat) => copied(alloc, reader, seat.desk.journal(), reads),
+        None => Ok(Journal::new(alloc)),
     }
 }
 
@@ -102,11 +95,10 @@ fn is_full(seats: &[Seat]) -> bool
 }
 
 /// The place of the sender of a line, who gets one where there was none. None where there is no room for one more user.
-pub(crate) fn seat_for<L: Ledger, M: Ledger>(
+pub(crate) fn seat_for<L: Ledger>(
     parts: &mut Parts,
     user: &[u8],
     reads: &mut Steps<L>,
-    probes: &mut Steps<M>,
 ) -> Result<Option<usize>, AllocError>
     requires hub { AreRightParts parts.old }
     requires short { length user.now ≤ USER_LIMIT }
@@ -116,17 +108,16 @@ pub(crate) fn seat_for<L: Ledger, M: Ledger>(
     if let Some(place) = place_of(&parts.seats, user) {
         return Ok(Some(place));
     }
-    seat_new(parts, user, reads, probes)
+    seat_new(parts, user, reads)
 }
 
 /// The place of a user who has none, or None where there is no room. Apart from `seat_for`, so that a line of a user who is
-/// there pays for no new session.
+/// there pays for no new desk.
 #[inline(never)]
-fn seat_new<L: Ledger, M: Ledger>(
+fn seat_new<L: Ledger>(
     parts: &mut Parts,
     user: &[u8],
     reads: &mut Steps<L>,
-    probes: &mut Steps<M>,
 ) -> Result<Option<usize>, AllocError>
     requires hub { AreRightParts parts.old }
     requires short { length user.now ≤ USER_LIMIT }
@@ -142,17 +133,17 @@ fn seat_new<L: Ledger, M: Ledger>(
     };
     // A call that does nothing, whose contract says which journals steps lead to.
     steps_write_what_is_accepted();
-    let session = new_session(
+    let journal = new_journal(
         parts.alloc,
         &mut parts.reader,
         &parts.seats,
         parts.data_lines,
         reads,
-        probes,
     )?;
+    let desk = Desk::new(parts.alloc, journal);
     let seat = Seat {
         user,
-        session,
+        desk,
         query_lines: 0,
     };
     let place = parts.seats.len();

@@ -4,6 +4,7 @@ ghost use Rattle.feeds_meaning.specs.Hub.{empty_hub};
 
 use crate::seat::Seat;
 use command_text::LineReader;
+use session::Shared;
 use std::alloc::Global;
 
 /// The users, in the order of their first lines, and what serves all of them.
@@ -11,6 +12,7 @@ use std::alloc::Global;
 pub(crate) struct Parts {
     pub(crate) alloc: Global,
     pub(crate) reader: LineReader,
+    pub(crate) shared: Shared,
     pub(crate) seats: Vec<Seat>,
     // How many data commands were accepted, of whomever.
     pub(crate) data_lines: u32,
@@ -32,6 +34,7 @@ impl Parts {
         Parts {
             alloc,
             reader: LineReader::new(alloc),
+            shared: Shared::new(alloc),
             seats: Vec::new(alloc),
             data_lines: 0,
             line: Vec::new(alloc),

@@ -16,4 +16,6 @@ pub mod UntoldLemmas
 pub mod LoadLemmas
 pub mod ReachedLemmas
 mod LiftLemmas
+mod SharingLemmas
+pub mod CallerLemmas
 mod IndexedLemmas

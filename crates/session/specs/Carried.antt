@@ -1,5 +1,5 @@
 -- Carrying out a command that was read: what it has to be like, and what it does from one moment to the next.
-use Rattle.std.specs.Prelude.{◌≡◌, ◌≤◌, ◌+◌, ◌++◌, ℕ, Bool, true, false, List, [], length, None, Some, Vec, Result, IfErr, IfOk, OnErr}
+use Rattle.std.specs.Prelude.{◌≡◌, ◌≤◌, ◌+◌, ◌++◌, ◌&&◌, not, ℕ, Bool, true, false, List, [], length, None, Some, Vec, Result, IfErr, IfOk, OnErr}
 use Rattle.std.specs.declared.alloc.Global.{Global}
 use Rattle.ftl_lexer.specs.declared.buffer.TheConstants.{LEXER_LIMIT}
 use Rattle.command_text.specs.declared.fault.CommandFault.{CommandFault}
@@ -49,7 +49,11 @@ pub record IsTelling (c : CommandTree) : Type 0 where
   pub printable : IsPrintable c
   pub telling : role_of c ≡ Telling
 
--- it changes the objects, the regions or the clock, and the journal keeps it
+-- a command that changes the objects, the regions or the clock
+abbrev pub is_on_data : CommandTree → Bool
+is_on_data c = is_kept c && not (is_on_queries c)
+
+-- it is one, and the journal keeps it
 pub record IsOnData (c : CommandTree) : Type 0 where
   pub kept : is_kept c ≡ true
   pub other : is_on_queries c ≡ false

@@ -1,5 +1,5 @@
 -- What follows a change of the database: lines of what changes for the registered queries, and what a write makes of them.
-use Rattle.std.specs.Prelude.{◌≡◌, ℕ, true, Option, None, Some, List, [], ◌∷◌, ◌++◌, Result, IfErr, IfOk}
+use Rattle.std.specs.Prelude.{◌≡◌, ℕ, true, Option, None, Some, List, [], ◌∷◌, ◌++◌, Result, IfErr, IfOk, OnErr, OnOk}
 use Rattle.std.specs.List.{flat_map}
 use Rattle.object_store.specs.Contents.{catalog_of}
 use Rattle.command_text.specs.declared.fault.CommandFault.{CommandFault}
@@ -16,9 +16,10 @@ use Rattle.database.specs.Attempt.{Carries}
 use Rattle.database.specs.Keeping.{clock_of, world_of_database}
 use Rattle.database.specs.Written.{writes_object}
 use Rattle.registry.specs.Moves.{told_moves_text}
+use Rattle.session.specs.declared.state.Changed.{Changed}
 use Rattle.session.specs.declared.state.State.{State}
 use Rattle.session.specs.Carried.{IsStopped}
-use Rattle.session.specs.State.{IsState}
+use Rattle.session.specs.State.{IsState, KeepsIndexes}
 
 -- the database was changed by a command, and nothing else was since
 pub record IsChanged (c : CommandTree) (before : ℕ) (change : Change) (s : State) : Type 0 where
@@ -66,3 +67,23 @@ pub record Follows (c : CommandTree) (before : ℕ) (change : Change) (old new :
   pub stopped : IfErr result (IsStopped c (held old.journal) (held new.journal))
   pub database : new.database ≡ old.database
   pub live : new.live ≡ old.live
+
+-- ---- A change that is accepted
+
+-- a command changed the database, from the tick before it on
+pub record IsMadeBy (c : CommandTree) (changed : Changed) (old new : Database) : Type 0 where
+  pub carries : Carries c old new changed.change
+  pub tick : changed.before ≡ clock_of old
+
+-- the database from before it
+abbrev pub with_database : State → Database → State
+with_database s d = record s { database = d }
+
+-- whoever is at the database accepts it, or nothing but the line has changed
+pub record Accepts {E : Type 0} (c : CommandTree) (changed : Changed) (old new : State) (result : Result (Unit {0}) E) : Type 0 where
+  pub state : OnOk result (IsState new.journal new)
+  pub indexes : OnOk result ((before : Database) → IsMadeBy c changed before old.database → KeepsIndexes (with_database old before) new)
+  pub database : new.database ≡ old.database
+  pub journal : OnErr result (new.journal ≡ old.journal)
+  pub live : OnErr result (new.live ≡ old.live)
+  pub index_list : OnErr result (new.indexes ≡ old.indexes)

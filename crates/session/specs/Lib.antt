@@ -12,3 +12,4 @@ pub mod Rows
 pub mod Trial
 pub mod Untold
 pub mod Imported
+pub mod Sharing

@@ -1,11 +1,10 @@
 //! What is done with a command that was read.
-ghost use Rattle.std.specs.Prelude.{◌≡◌, ◌++◌, false, IfErr, IfOk, IfSome, OnOk};
-ghost use Rattle.command_text.specs.Text.{IsLineOf};
+ghost use Rattle.std.specs.Prelude.{◌≡◌, ◌++◌, false, IfErr, IfOk, OnOk};
 ghost use Rattle.command_text.specs.Tree.{command_view};
 ghost use Rattle.line_meaning.specs.Step.{held};
 ghost use Rattle.database.specs.Telling.{RefusesFreely, tally};
 ghost use Rattle.session.specs.Answers.{next_of};
-ghost use Rattle.session.specs.Carried.{Carried, CarriesOut, HasRoomFor, IsStopped, IsTelling, IsToCarryOut, Spends, end_of, moment};
+ghost use Rattle.session.specs.Carried.{Carried, CarriesOut, HasRoomFor, IsStopped, IsTelling, IsToCarryOut, Spends, end_of, is_on_data, moment};
 ghost use Rattle.line_meaning.specs.Role.{is_on_indexes};
 ghost use Rattle.session.specs.State.{holds, IsIndexed, IsState, KeepsIndexes};
 ghost use Rattle.session.specs.Told.{IsTold};
@@ -87,17 +86,16 @@ fn perform_plain<L: Ledger, M: Ledger>(
     alloc: Global,
     state: &mut State,
     command: &Command,
-    printed: Option<&[u8]>,
     reads: &mut Steps<L>,
     probes: &mut Steps<M>,
     out: &mut Vec<u8>,
 ) -> Result<Next, CommandFault>
     requires state { IsState state.old.journal state.old }
     requires command { IsToCarryOut (command_view command.now) }
-    requires printed { IfSome printed (λ line. IsLineOf line.now (command_view command.now)) }
     requires other { is_on_indexes (command_view command.now) ≡ false }
     ensures state { IsState state.new.journal state.new }
     ensures indexes { KeepsIndexes state.old state.new }
+    ensures database { is_on_data (command_view command.now) ≡ false → state.new.database ≡ state.old.database }
     ensures carries { CarriesOut (command_view command.now)
         (moment (held state.old.journal) out.old.items reads.old probes.old)
         (moment (held state.new.journal) out.new.items reads.new probes.new) result }
@@ -107,7 +105,7 @@ fn perform_plain<L: Ledger, M: Ledger>(
     match role_of(command) {
         Role::Blank => Ok(Next::Silent),
         Role::Journalled => {
-            keep(alloc, state, command, printed, reads, probes, out)?;
+            keep(alloc, state, command, reads, probes, out)?;
             Ok(Next::Accepted)
         }
         Role::Telling => {
@@ -144,7 +142,6 @@ fn perform<L: Ledger, M: Ledger>(
     alloc: Global,
     state: &mut State,
     command: &Command,
-    printed: Option<&[u8]>,
     reads: &mut Steps<L>,
     probes: &mut Steps<M>,
     out: &mut Vec<u8>,
@@ -152,9 +149,9 @@ fn perform<L: Ledger, M: Ledger>(
     requires state { IsState state.old.journal state.old }
     requires indexed { IsIndexed state.old }
     requires command { IsToCarryOut (command_view command.now) }
-    requires printed { IfSome printed (λ line. IsLineOf line.now (command_view command.now)) }
     ensures state { IsState state.new.journal state.new }
     ensures indexed { IsIndexed state.new }
+    ensures database { is_on_data (command_view command.now) ≡ false → state.new.database ≡ state.old.database }
     ensures carries { CarriesOut (command_view command.now)
         (moment (holds state.old) out.old.items reads.old probes.old)
         (moment (holds state.new) out.new.items reads.new probes.new) result }
@@ -168,7 +165,7 @@ fn perform<L: Ledger, M: Ledger>(
         }
         _ => {
             prepare_for(state, command);
-            perform_plain(alloc, state, command, printed, reads, probes, out)
+            perform_plain(alloc, state, command, reads, probes, out)
         }
     }
 }
@@ -180,7 +177,6 @@ pub(crate) fn carry_out<L: Ledger, M: Ledger>(
     alloc: Global,
     state: &mut State,
     command: &Command,
-    printed: Option<&[u8]>,
     reads: &mut Steps<L>,
     probes: &mut Steps<M>,
     out: &mut Vec<u8>,
@@ -188,16 +184,16 @@ pub(crate) fn carry_out<L: Ledger, M: Ledger>(
     requires state { IsState state.old.journal state.old }
     requires indexed { IsIndexed state.old }
     requires command { IsToCarryOut (command_view command.now) }
-    requires printed { IfSome printed (λ line. IsLineOf line.now (command_view command.now)) }
     ensures state { IsState state.new.journal state.new }
     ensures indexed { IsIndexed state.new }
+    ensures database { is_on_data (command_view command.now) ≡ false → state.new.database ≡ state.old.database }
     ensures carried { Carried (command_view command.now)
         (moment (holds state.old) out.old.items reads.old probes.old)
         (moment (holds state.new) out.new.items reads.new probes.new) result }
     ensures room { IfOk result (λ next. HasRoomFor next out.new) }
 {
     let before = out.len();
-    match perform(alloc, state, command, printed, reads, probes, out) {
+    match perform(alloc, state, command, reads, probes, out) {
         Ok(next) => Ok(next),
         Err(CommandFault::Refused(refusal)) => {
             out.truncate(before);

@@ -43,7 +43,7 @@ fn enter_row<L: Ledger, M: Ledger>(
     ensures room { OnOk result (HasRoomForOk out.new) }
 {
     canonical_lines_are_read_back();
-    match keep(alloc, state, command, None, reads, probes, out) {
+    match keep(alloc, state, command, reads, probes, out) {
         Ok(()) => Ok(()),
         Err(CommandFault::NoMemory) => Err(AllocError),
         Err(CommandFault::Refused(_)) => unreachable!(),

@@ -30,6 +30,7 @@ pub(crate) fn on_indexes<L: Ledger>(
     requires role { role_of (command_view command.now) ≡ Indexing }
     ensures state { IsState state.new.journal state.new }
     ensures indexed { IsIndexed state.new }
+    ensures database { state.new.database ≡ state.old.database }
     ensures carries { (probes : ℕ) → CarriesOut (command_view command.now)
         (moment (holds state.old) out.old.items reads.old probes)
         (moment (holds state.new) out.new.items reads.new probes) result }

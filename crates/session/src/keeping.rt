@@ -1,5 +1,5 @@
 //! The commands that the journal keeps.
-ghost use Rattle.std.specs.Prelude.{◌≡◌, ◌++◌, ◌∷◌, [], true, false, IfErr, IfOk, IfSome, OnOk};
+ghost use Rattle.std.specs.Prelude.{◌≡◌, ◌++◌, ◌∷◌, [], true, false, IfErr, IfOk, IfSome, OnErr, OnOk};
 ghost use Rattle.std.specs.List.{flat_map};
 ghost use Rattle.command_text.specs.Journal.{is_kept};
 ghost use Rattle.command_text.specs.Tree;
@@ -18,13 +18,13 @@ ghost use Rattle.database.specs.Written.{writes_object};
 ghost use Rattle.registry.specs.Moves.{told_moves_text};
 ghost use Rattle.registry.specs.Standing.{StoodAt};
 ghost use Rattle.session.specs.Asked.{request_command};
-ghost use Rattle.session.specs.Carried.{CarriesOut, IsAccepted, IsLegible, IsOnData, IsStopped, Spends, moment};
-ghost use Rattle.session.specs.Followed.{Follows, IsChanged, Prepares, Settles, lines_told};
+ghost use Rattle.session.specs.Carried.{CarriesOut, IsAccepted, IsLegible, IsOnData, IsStopped, Spends, is_on_data, moment};
+ghost use Rattle.session.specs.Followed.{Accepts, Follows, IsChanged, IsMadeBy, Prepares, Settles, lines_told};
 ghost use Rattle.session.specs.State.{IsState, KeepsIndexes};
 ghost use Rattle.kept_indexes.specs.Making.{HasRoomForOk};
 
 use crate::entering::{admit, enter};
-use crate::state::State;
+use crate::state::{Changed, State};
 use command_text::{Command, CommandFault, Refusal};
 use database::{Change, Database};
 use fixed_point::Word;
@@ -46,7 +46,6 @@ pub(crate) fn keep<L: Ledger, M: Ledger>(
     alloc: Global,
     state: &mut State,
     command: &Command,
-    printed: Option<&[u8]>,
     reads: &mut Steps<L>,
     probes: &mut Steps<M>,
     out: &mut Vec<u8>,
@@ -54,9 +53,9 @@ pub(crate) fn keep<L: Ledger, M: Ledger>(
     requires state { IsState state.old.journal state.old }
     requires legible { IsLegible (command_view command.now) }
     requires kept { is_kept (command_view command.now) ≡ true }
-    requires printed { IfSome printed (λ line. IsLineOf line.now (command_view command.now)) }
     ensures state { IsState state.new.journal state.new }
     ensures indexes { KeepsIndexes state.old state.new }
+    ensures database { is_on_data (command_view command.now) ≡ false → state.new.database ≡ state.old.database }
     ensures carries { CarriesOut (command_view command.now)
         (moment (held state.old.journal) out.old.items reads.old probes.old)
         (moment (held state.new.journal) out.new.items reads.new probes.new) result }
@@ -82,7 +81,7 @@ pub(crate) fn keep<L: Ledger, M: Ledger>(
             add_query(alloc, state, command, &request, reads, probes, out)
         }
         Command::Drop { name } => drop_query(state, command, name, out),
-        _ => change(alloc, state, command, printed, reads, probes, out),
+        _ => change(alloc, state, command, reads, probes, out),
     }
 }
 
@@ -102,6 +101,7 @@ fn add_query<L: Ledger, M: Ledger>(
     requires is { command_view command.now ≡ request_command request.now }
     ensures state { IsState state.new.journal state.new }
     ensures indexes { KeepsIndexes state.old state.new }
+    ensures database { state.new.database ≡ state.old.database }
     ensures carries { CarriesOut (command_view command.now)
         (moment (held state.old.journal) out.old.items reads.old probes.old)
         (moment (held state.new.journal) out.new.items reads.new probes.new) result }
@@ -142,6 +142,7 @@ fn drop_query(
     requires is { command_view command.now ≡ Tree.Drop name.now }
     ensures state { IsState state.new.journal state.new }
     ensures indexes { KeepsIndexes state.old state.new }
+    ensures database { state.new.database ≡ state.old.database }
     ensures accepted { IfOk result (λ _. IsAccepted (command_view command.now) (held state.old.journal) (held state.new.journal) out.old.items out.new.items) }
     ensures stopped { IfErr result (IsStopped (command_view command.now) (held state.old.journal) (held state.new.journal)) }
     ensures room { OnOk result (HasRoomForOk out.new) }
@@ -157,12 +158,10 @@ fn drop_query(
 }
 
 /// Carries out a command that changes the database.
-#[tactic(auto, using(crate::proofs::KeepLemmas::keeps_all))]
 fn change<L: Ledger, M: Ledger>(
     alloc: Global,
     state: &mut State,
     command: &Command,
-    printed: Option<&[u8]>,
     reads: &mut Steps<L>,
     probes: &mut Steps<M>,
     out: &mut Vec<u8>,
@@ -170,7 +169,6 @@ fn change<L: Ledger, M: Ledger>(
     requires state { IsState state.old.journal state.old }
     requires legible { IsLegible (command_view command.now) }
     requires data { IsOnData (command_view command.now) }
-    requires printed { IfSome printed (λ line. IsLineOf line.now (command_view command.now)) }
     ensures state { IsState state.new.journal state.new }
     ensures indexes { KeepsIndexes state.old state.new }
     ensures carries { CarriesOut (command_view command.now)
@@ -178,27 +176,76 @@ fn change<L: Ledger, M: Ledger>(
         (moment (held state.new.journal) out.new.items reads.new probes.new) result }
     ensures room { OnOk result (HasRoomForOk out.new) }
 {
+    // The command is entered, so nothing takes its change back any more.
+    drop(make_change(alloc, state, command, reads, probes, out)?);
+    Ok(())
+}
+
+/// The same. Answers what was changed, for the others who share the database.
+pub(crate) fn make_change<L: Ledger, M: Ledger>(
+    alloc: Global,
+    state: &mut State,
+    command: &Command,
+    reads: &mut Steps<L>,
+    probes: &mut Steps<M>,
+    out: &mut Vec<u8>,
+) -> Result<Changed, CommandFault>
+    requires state { IsState state.old.journal state.old }
+    requires legible { IsLegible (command_view command.now) }
+    requires data { IsOnData (command_view command.now) }
+    ensures state { IsState state.new.journal state.new }
+    ensures indexes { KeepsIndexes state.old state.new }
+    ensures carries { CarriesOut (command_view command.now)
+        (moment (held state.old.journal) out.old.items reads.old probes.old)
+        (moment (held state.new.journal) out.new.items reads.new probes.new) result }
+    ensures made { IfOk result (λ changed. IsMadeBy (command_view command.now) changed state.old.database state.new.database) }
+    ensures same { OnErr result (state.new.database ≡ state.old.database) }
+    ensures room { OnOk result (HasRoomForOk out.new) }
+{
     let before = state.database.clock();
     let change = state.database.attempt(alloc, command)?;
-    match follow(state, command, printed, &change, before, reads, probes, out) {
-        Ok(fresh) => {
-            // The command is entered, so nothing takes its change back any more.
-            state.indexes.touch(&state.database, &change);
-            drop(change);
-            settle(&mut state.live, fresh, state.database.clock());
-            queries_go_on_fitting_worlds();
-            writes_to_no_object_keep_queries_current();
-            committed_writes_keep_queries_current();
-            prepared_writes_renew_queries();
-            prepared_changes_tell_what_a_write_changes();
-            current_queries_tell_their_answers();
-            Ok(())
-        }
+    let changed = Changed { change, before };
+    match accept(state, command, None, &changed, reads, probes, out) {
+        Ok(()) => Ok(changed),
         Err(fault) => {
+            let Changed { change, .. } = changed;
             state.database.take_back(change);
             Err(fault)
         }
     }
+}
+
+/// Accepts a command whose change was made, by this user's command or another's: tells what it changes, enters it, and makes
+/// the rows and the indexes right again. After an error the journal, the rows and the indexes are as before.
+pub(crate) fn accept<L: Ledger, M: Ledger>(
+    state: &mut State,
+    command: &Command,
+    printed: Option<&[u8]>,
+    changed: &Changed,
+    reads: &mut Steps<L>,
+    probes: &mut Steps<M>,
+    out: &mut Vec<u8>,
+) -> Result<(), CommandFault>
+    requires changed { IsChanged (command_view command.now) changed.now.before changed.now.change state.old }
+    requires legible { IsLegible (command_view command.now) }
+    requires data { IsOnData (command_view command.now) }
+    requires printed { IfSome printed (λ line. IsLineOf line.now (command_view command.now)) }
+    ensures accepts { Accepts (command_view command.now) changed.now state.old state.new result }
+    ensures carries { CarriesOut (command_view command.now)
+        (moment (held state.old.journal) out.old.items reads.old probes.old)
+        (moment (held state.new.journal) out.new.items reads.new probes.new) result }
+    ensures room { OnOk result (HasRoomForOk out.new) }
+{
+    let fresh = follow(state, command, printed, changed, reads, probes, out)?;
+    state.indexes.touch(&state.database, &changed.change);
+    settle(&mut state.live, fresh, state.database.clock());
+    queries_go_on_fitting_worlds();
+    writes_to_no_object_keep_queries_current();
+    committed_writes_keep_queries_current();
+    prepared_writes_renew_queries();
+    prepared_changes_tell_what_a_write_changes();
+    current_queries_tell_their_answers();
+    Ok(())
 }
 
 /// Makes what was prepared of a write, if it was; else time may have passed to tick `now`.
@@ -222,17 +269,16 @@ fn follow<L: Ledger, M: Ledger>(
     state: &mut State,
     command: &Command,
     printed: Option<&[u8]>,
-    change: &Change,
-    before: u32,
+    changed: &Changed,
     reads: &mut Steps<L>,
     probes: &mut Steps<M>,
     out: &mut Vec<u8>,
 ) -> Result<Option<Fresh>, CommandFault>
-    requires changed { IsChanged (command_view command.now) before change.now state.old }
+    requires changed { IsChanged (command_view command.now) changed.now.before changed.now.change state.old }
     requires legible { IsLegible (command_view command.now) }
     requires data { IsOnData (command_view command.now) }
     requires printed { IfSome printed (λ line. IsLineOf line.now (command_view command.now)) }
-    ensures follows { Follows (command_view command.now) before change.now state.old state.new out.old.items out.new.items result }
+    ensures follows { Follows (command_view command.now) changed.now.before changed.now.change state.old state.new out.old.items out.new.items result }
     ensures spends { Spends (command_view command.now)
         (moment (held state.old.journal) out.old.items reads.old probes.old)
         (moment (held state.new.journal) out.new.items reads.new probes.new) }
@@ -240,10 +286,9 @@ fn follow<L: Ledger, M: Ledger>(
     ensures room { OnOk result (HasRoomForOk out.new) }
     ensures indexes { state.new.indexes ≡ state.old.indexes }
 {
-    let alloc = *state.line.allocator();
     admit(&state.journal, &mut state.line, command, printed)?;
-    let fresh = tell_change(alloc, state, command, change, before, reads, probes, out)?;
-    enter(&mut state.journal, before, &state.line, out)?;
+    let fresh = tell_change(state, command, changed, reads, probes, out)?;
+    enter(&mut state.journal, changed.before, &state.line, out)?;
     Ok(fresh)
 }
 
@@ -270,31 +315,30 @@ fn pass(
 
 /// Writes what a change that was made changes for the registered queries. Answers what a write makes of the rows.
 fn tell_change<L: Ledger, M: Ledger>(
-    alloc: Global,
     state: &State,
     command: &Command,
-    change: &Change,
-    before: u32,
+    changed: &Changed,
     reads: &mut Steps<L>,
     probes: &mut Steps<M>,
     out: &mut Vec<u8>,
 ) -> Result<Option<Fresh>, AllocError>
-    requires changed { IsChanged (command_view command.now) before change.now state.now }
-    requires reached { AreReached [] (state.now.journal ++ (before, command_view command.now) ∷ []) }
-    ensures prepared { IfOk result (Prepares (command_view command.now) change.now state.now.database state.now.live) }
+    requires changed { IsChanged (command_view command.now) changed.now.before changed.now.change state.now }
+    requires reached { AreReached [] (state.now.journal ++ (changed.now.before, command_view command.now) ∷ []) }
+    ensures prepared { IfOk result (Prepares (command_view command.now) changed.now.change state.now.database state.now.live) }
     ensures told { IfOk result (λ f. out.new.items
-        ≡ out.old.items ++ lines_told (command_view command.now) before state.now.database state.now.live f) }
+        ≡ out.old.items ++ lines_told (command_view command.now) changed.now.before state.now.database state.now.live f) }
     ensures spends { Spends (command_view command.now)
         (moment (held state.now.journal) out.old.items reads.old probes.old)
         (moment (held state.now.journal) out.new.items reads.new probes.new) }
 {
     match command {
         Command::Tick { .. } => {
-            pass(alloc, &state.database, &state.live, before, out)?;
+            let alloc = *state.line.allocator();
+            pass(alloc, &state.database, &state.live, changed.before, out)?;
             Ok(None)
         }
         Command::Insert { .. } | Command::Update { .. } | Command::Remove { .. } => {
-            tell_write(alloc, state, command, change, before, reads, probes, out)
+            tell_write(state, command, changed, reads, probes, out)
         }
         _ => Ok(None),
     }
@@ -302,29 +346,28 @@ fn tell_change<L: Ledger, M: Ledger>(
 
 /// The same of a command that writes to an object.
 fn tell_write<L: Ledger, M: Ledger>(
-    alloc: Global,
     state: &State,
     command: &Command,
-    change: &Change,
-    before: u32,
+    changed: &Changed,
     reads: &mut Steps<L>,
     probes: &mut Steps<M>,
     out: &mut Vec<u8>,
 ) -> Result<Option<Fresh>, AllocError>
-    requires changed { IsChanged (command_view command.now) before change.now state.now }
-    requires reached { AreReached [] (state.now.journal ++ (before, command_view command.now) ∷ []) }
+    requires changed { IsChanged (command_view command.now) changed.now.before changed.now.change state.now }
+    requires reached { AreReached [] (state.now.journal ++ (changed.now.before, command_view command.now) ∷ []) }
     requires write { writes_object (command_view command.now) ≡ true }
-    ensures prepared { IfOk result (Prepares (command_view command.now) change.now state.now.database state.now.live) }
+    ensures prepared { IfOk result (Prepares (command_view command.now) changed.now.change state.now.database state.now.live) }
     ensures told { IfOk result (λ f. out.new.items
-        ≡ out.old.items ++ lines_told (command_view command.now) before state.now.database state.now.live f) }
+        ≡ out.old.items ++ lines_told (command_view command.now) changed.now.before state.now.database state.now.live f) }
     ensures spends { Spends (command_view command.now)
         (moment (held state.now.journal) out.old.items reads.old probes.old)
         (moment (held state.now.journal) out.new.items reads.new probes.new) }
 {
     queries_go_on_fitting_worlds();
     let (database, live) = (&state.database, &state.live);
-    match change {
+    match &changed.change {
         Change::Object(done) => {
+            let alloc = *state.line.allocator();
             let fresh = renew(alloc, database, live, done.id, reads, probes, out)?;
             Ok(Some(fresh))
         }

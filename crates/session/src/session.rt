@@ -1,7 +1,6 @@
 //! The state of the database, one line at a time.
 ghost use Rattle.std.specs.Prelude.{◌≡◌, ◌+◌, ◌≤◌, true, false, [], IfOk};
 ghost use Rattle.command_text.specs.Journal.{clock, is_kept, spelled};
-ghost use Rattle.command_text.specs.Text.{IsLineOf};
 ghost use Rattle.command_text.specs.Tree.{command_view};
 ghost use Rattle.line_meaning.specs.Journal.{world};
 ghost use Rattle.line_meaning.specs.Looks.{is_query, looks_of, most_looks};
@@ -130,47 +129,6 @@ impl Session {
         applied
     }
 
-    /// Carries out a command that was read and asks nothing of the shelf, and appends the lines of its reply to `out`
-    /// without the `ok` that ends them, for which there is room in `out` then: who answers the line appends it. `Refused`
-    /// carries the first refusal that holds; it and want of memory change nothing.
-    pub fn carry_out<L: Ledger, M: Ledger>(
-        &mut self,
-        command: &Command,
-        reads: &mut Steps<L>,
-        probes: &mut Steps<M>,
-        out: &mut Vec<u8>,
-    ) -> Result<Next, AllocError>
-        requires legible { IsLegible (command_view command.now) }
-        requires plain { asks_shelf (command_view command.now) ≡ false }
-        ensures carried { Carried (command_view command.now)
-            (moment self.old out.old.items reads.old probes.old) (moment self.new out.new.items reads.new probes.new) result }
-        ensures room { IfOk result (λ next. HasRoomFor next out.new) }
-    {
-        let (alloc, state) = (self.alloc, &mut self.state);
-        carry_out(alloc, state, command, None, reads, probes, out)
-    }
-
-    /// Carries out a command as [`Session::carry_out`] does, where its canonical line was printed before: the journal keeps
-    /// this line, and none is printed.
-    pub fn carry_out_printed<L: Ledger, M: Ledger>(
-        &mut self,
-        command: &Command,
-        line: &[u8],
-        reads: &mut Steps<L>,
-        probes: &mut Steps<M>,
-        out: &mut Vec<u8>,
-    ) -> Result<Next, AllocError>
-        requires legible { IsLegible (command_view command.now) }
-        requires plain { asks_shelf (command_view command.now) ≡ false }
-        requires line { IsLineOf line.now (command_view command.now) }
-        ensures carried { Carried (command_view command.now)
-            (moment self.old out.old.items reads.old probes.old) (moment self.new out.new.items reads.new probes.new) result }
-        ensures room { IfOk result (λ next. HasRoomFor next out.new) }
-    {
-        let (alloc, state) = (self.alloc, &mut self.state);
-        carry_out(alloc, state, command, Some(line), reads, probes, out)
-    }
-
     /// Carries out a command that a journal keeps, as `apply` does with its line, but without a reply: it is
     /// `Accepted`, or `Refused` by the first refusal that holds. A refusal and want of memory change nothing.
     pub fn replay<L: Ledger, M: Ledger>(
@@ -191,6 +149,25 @@ impl Session {
         drop(command);
         drop(lines);
         carried
+    }
+
+    /// Carries out a command that was read and asks nothing of the shelf, and appends the lines of its reply to `out`. A refusal
+    /// and want of memory change nothing.
+    fn carry_out<L: Ledger, M: Ledger>(
+        &mut self,
+        command: &Command,
+        reads: &mut Steps<L>,
+        probes: &mut Steps<M>,
+        out: &mut Vec<u8>,
+    ) -> Result<Next, AllocError>
+        requires legible { IsLegible (command_view command.now) }
+        requires plain { asks_shelf (command_view command.now) ≡ false }
+        ensures carried { Carried (command_view command.now)
+            (moment self.old out.old.items reads.old probes.old) (moment self.new out.new.items reads.new probes.new) result }
+        ensures room { IfOk result (λ next. HasRoomFor next out.new) }
+    {
+        let (alloc, state) = (self.alloc, &mut self.state);
+        carry_out(alloc, state, command, reads, probes, out)
     }
 }
 
@@ -220,7 +197,7 @@ fn apply_command<F: Shelf, L: Ledger, M: Ledger>(
 {
     match role_of(command) {
         Role::Filing => file(alloc, state, command, shelf, reads, probes, out),
-        _ => match carry_out(alloc, state, command, None, reads, probes, out) {
+        _ => match carry_out(alloc, state, command, reads, probes, out) {
             Ok(next) => {
                 end(next, out);
                 Ok(next)

@@ -4,7 +4,7 @@ ghost use Rattle.kept_indexes.specs.Kept.{AreIndexes};
 ghost use Rattle.session.specs.State.{IsState};
 
 use command_text::Journal;
-use database::Database;
+use database::{Change, Database};
 use kept_indexes::Indexes;
 use live_queries::Live;
 use std::alloc::Global;
@@ -35,4 +35,11 @@ impl State {
             line: Vec::new(alloc),
         }
     }
+}
+
+/// What a command changed of the database, and the tick from before it.
+#[derive(Drop)]
+pub(crate) struct Changed {
+    pub(crate) change: Change,
+    pub(crate) before: u32,
 }

@@ -2,7 +2,8 @@ use Rattle.std.proofs.Common.{◌≡◌, None, Some, sym, subst, arith}
 use Rattle.std.proofs.lemmas.List.{length-map}
 use Rattle.std.proofs.lemmas.Result.{on_ok_weaker}
 use Rattle.users.specs.Sender.{sent_in}
-use Rattle.hub.specs.Told.{IsSeatedAs, hub_of, seated}
+use Rattle.hub.specs.Told.{IsSeatedAs, held_users, hub_of, seated}
+use Rattle.hub.proofs.DeskLemmas.{held_length}
 use Rattle.hub.proofs.StepLemmas.{ninth_is_answered, nobody_is_answered, place_is_one, sent_is_answered}
 use Rattle.hub.proofs.answer.answer_line.Goals as goal
 
@@ -17,7 +18,8 @@ answer_sent-requires-clause-there g c =
     let seated_as : IsSeatedAs (hub_of c.args.parts.now) c.in-Some.user.now (hub_of c.seat_for.new.parts) (Some c.in-Some-2.place) =
     subst (IsSeatedAs (hub_of c.args.parts.now) c.in-Some.user.now (hub_of c.seat_for.new.parts)) c.in-Some-2.is c.in_ok-place.ensures.seated in
     let inside = place_is_one (hub_of c.args.parts.now) (hub_of c.seat_for.new.parts) c.in-Some.user.now c.in-Some-2.place seated_as in
-    let long = length-map c.seat_for.new.parts.seats.items (seated c.seat_for.new.parts.data_lines) in
+    let long = length-map (held_users c.seat_for.new.parts.seats.items) (seated c.seat_for.new.parts.data_lines) in
+    let held = held_length c.seat_for.new.parts.seats.items in
     omega arith
 
 pub returns-in-Some-2-clause-answered : goal.returns-in-Some-2-clause-answered

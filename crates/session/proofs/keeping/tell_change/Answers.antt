@@ -8,9 +8,9 @@ pub pass-requires : goal.pass-requires
 pass-requires g c =
     record {
       stood = record {
-        upto = still_before c.args.state.now (command_view c.args.command.now) c.args.before c.args.change.now c.requires.changed;
-        entered = still_entered c.args.state.now (command_view c.args.command.now) c.args.before c.args.change.now c.requires.changed;
-        current = still_current c.args.state.now (command_view c.args.command.now) c.args.before c.args.change.now c.requires.changed
-            (ap (λ x. writes_of c.args.before (command_view x)) c.in-Tick.is) (ap (λ x. regions_of (command_view x)) c.in-Tick.is);
+        upto = still_before c.args.state.now (command_view c.args.command.now) c.args.changed.now.before c.args.changed.now.change c.requires.changed;
+        entered = still_entered c.args.state.now (command_view c.args.command.now) c.args.changed.now.before c.args.changed.now.change c.requires.changed;
+        current = still_current c.args.state.now (command_view c.args.command.now) c.args.changed.now.before c.args.changed.now.change c.requires.changed
+            (ap (λ x. writes_of c.args.changed.now.before (command_view x)) c.in-Tick.is) (ap (λ x. regions_of (command_view x)) c.in-Tick.is);
       };
     }
