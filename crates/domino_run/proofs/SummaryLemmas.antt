@@ -15,7 +15,7 @@ use Rattle.generator.specs.Lines.{lines_of}
 use Rattle.generator.specs.Next.{GivesNext}
 use Rattle.domino_run.specs.Looks.{looks_of_lines}
 use Rattle.domino_run.specs.Machine.{looks_of_line}
-use Rattle.domino_run.specs.Summary.{AnswersAs, LineTally, counted_line, first_state, summary, tally_after, tally_text}
+use Rattle.domino_run.specs.Summary.{AnswersAs, LineTally, counted_line, first_state, nothing_counted, summary, tally_after, tally_text, told_of_lines}
 use Rattle.domino_run.proofs.AnswerLemmas.{IsAccepted, answered, left_after, step_of}
 
 module _ (told told' : Texts) (line : List ℕ) (h new : Held) (after : List ℕ) (result : Result Next ApplyFault)
@@ -69,11 +69,16 @@ looks_stop old line left after reads reads' most is one all =
     let first : looks_of_lines old left ≡ looks_of_line old line + looks_of_lines (step old line).0 after = ap (looks_of_lines old) is in
     omega (arith, one, all, first)
 
--- where no line is left, the text of what was counted is the summary
-pub summary_is : (text before line : List ℕ) (b : Base) (t : LineTally) (number : ℕ) (left after : List (List ℕ)) (more : Bool) →
-    text ≡ tally_text t → fold counted_line (b, t) left ≡ fold counted_line first_state (lines_of number) →
-    GivesNext left after before line more → more ≡ false → text ≡ summary number
-unfolding summary
-summary_is text before line b t number left after true text_is on gives none = absurd (cc none)
-summary_is text before line b t number left after false text_is on (no_line, none_after, stays) none =
+-- where no line is left, the text of what was counted is that of all lines
+pub told_is : (text before line : List ℕ) (b start : Base) (t : LineTally) (left after all : List (List ℕ)) (more : Bool) →
+    text ≡ tally_text t → fold counted_line (b, t) left ≡ fold counted_line (start, nothing_counted) all →
+    GivesNext left after before line more → more ≡ false → text ≡ told_of_lines start all
+told_is text before line b start t left after all true text_is on gives none = absurd (cc none)
+told_is text before line b start t left after all false text_is on (no_line, none_after, stays) none =
     text_is ∙ ap (λ (s : Base × LineTally). tally_text s.1) (sym (ap (fold counted_line (b, t)) no_line) ∙ on)
+
+-- from the first state on, the lines of a number have their summary
+pub summary_is : (text : List ℕ) (start : Base) (number : ℕ) (all : List (List ℕ)) → start ≡ first_state.0 → all ≡ lines_of number →
+    text ≡ told_of_lines start all → text ≡ summary number
+unfolding summary
+summary_is text start number all first are told = told ∙ (λ i. told_of_lines (first i) (are i))

@@ -40,6 +40,10 @@ tally_text t =
     number_line (codes "lines ") t.lines ++ (number_line (codes "refused ") t.refused
     ++ (number_line (codes "bytes ") t.bytes ++ number_line (codes "sum ") t.total))
 
+-- what is said of lines that are answered from a state on
+abbrev pub told_of_lines : Base → List (List ℕ) → List ℕ
+told_of_lines b lines = tally_text (fold counted_line (b, nothing_counted) lines).1
+
 -- the empty journal, where there is no text, and nothing was counted
 abbrev pub first_state : Base × LineTally
 first_state = (base (held []) (λ name. None), nothing_counted)

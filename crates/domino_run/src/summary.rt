@@ -1,11 +1,12 @@
 //! What is said of the generator's lines.
-ghost use Rattle.std.specs.Prelude.{◌≡◌, ◌≤◌, ◌+◌, [], IfOk};
+ghost use Rattle.std.specs.Prelude.{◌≡◌, ◌≤◌, ◌+◌, [], length, IfOk};
 ghost use Rattle.outside.specs.Shelf.{texts_of};
 ghost use Rattle.line_meaning.specs.Step.{base};
 ghost use Rattle.generator.specs.Lines.{lines_of};
+ghost use Rattle.generator.specs.declared.plan.TheConstants.{LINES};
 ghost use Rattle.domino_run.specs.Looks.{looks_of_lines};
 ghost use Rattle.domino_run.specs.Machine.{looks_of_line};
-ghost use Rattle.domino_run.specs.Summary.{AnswersAs, first_state, summary};
+ghost use Rattle.domino_run.specs.Summary.{AnswersAs, first_state, summary, told_of_lines};
 
 use crate::machine::{Counters, push_refusal};
 use crate::tally::Tally;
@@ -14,6 +15,17 @@ use outside::{OutFail, SureShelf};
 use session::{ApplyFault, Next, Session};
 use std::alloc::Global;
 use std::sync::ledger::Ledger;
+
+// The lines that are still to come, what answers them, and the last line with its reply. One value, so that it is let go
+// in one place, whichever line's answer fails.
+#[derive(Drop)]
+struct Workload {
+    session: Session,
+    shelf: SureShelf,
+    lines: Generator,
+    line: Vec<u8>,
+    reply: Vec<u8>,
+}
 
 /// Answers the lines of a number from an empty database on, with a shelf of their own, and tells what was
 /// counted of them. The replies are kept no longer than it takes to count them.
@@ -26,16 +38,42 @@ pub fn summary<L: Ledger, M: Ledger>(
     ensures looks { counters.new.reads ≤ counters.old.reads + looks_of_lines first_state.0 (lines_of number) }
 {
     as_many_lines_by_each_number();
-    let mut session = Session::new(alloc);
-    let mut shelf = SureShelf::new(alloc);
-    let mut lines = Generator::new(number);
+    let session = Session::new(alloc);
+    let shelf = SureShelf::new(alloc);
+    let lines = Generator::new(number);
+    let mut workload = Workload {
+        session,
+        shelf,
+        lines,
+        line: Vec::new(alloc),
+        reply: Vec::new(alloc),
+    };
+    tell_lines(alloc, &mut workload, counters)
+}
+
+// Answers the lines that are still to come, and tells what was counted of them.
+fn tell_lines<L: Ledger, M: Ledger>(
+    alloc: Global,
+    workload: &mut Workload,
+    counters: &mut Counters<L, M>,
+) -> Result<Vec<u8>, OutFail>
+    requires { length workload.old.lines ≤ LINES }
+    ensures text { IfOk result (λ text. text.items
+        ≡ told_of_lines (base workload.old.session (texts_of workload.old.shelf)) workload.old.lines) }
+    ensures looks { counters.new.reads ≤ counters.old.reads
+        + looks_of_lines (base workload.old.session (texts_of workload.old.shelf)) workload.old.lines }
+{
     let mut tally = Tally::new();
-    let mut line = Vec::new(alloc);
-    let mut reply = Vec::new(alloc);
-    'lines: while lines.next_line(&mut line)? {
-        reply.clear();
-        let refused = answer(counters, &mut session, &line, &mut shelf, &mut reply)?;
-        tally.count(refused, &reply);
+    'lines: while workload.lines.next_line(&mut workload.line)? {
+        workload.reply.clear();
+        let refused = answer(
+            counters,
+            &mut workload.session,
+            &workload.line,
+            &mut workload.shelf,
+            &mut workload.reply,
+        )?;
+        tally.count(refused, &workload.reply);
     }
     let text = tally.text(alloc)?;
     Ok(text)
