@@ -1,5 +1,7 @@
 //! Who sends a line.
-ghost use Rattle.std.specs.Prelude.{◌≡◌, option_map};
+ghost use Rattle.std.specs.Prelude.{◌≡◌, is_none, not, option_map};
+ghost use Rattle.case_table.specs.Language.{reserved_words};
+ghost use Rattle.case_table.specs.Rows.{code_of};
 ghost use Rattle.users.specs.Sender.{after_space, may_be_user, sent, sent_in};
 
 use crate::word::word_at;
@@ -13,10 +15,18 @@ pub fn limits_in_numbers()
     ensures { USER_LIMIT ≡ 8 }
 {}
 
+// No reserved word has one byte.
+#[tactic(auto, using(crate::proofs::ReservedLemmas::one_byte))]
+fn is_reserved(word: &[u8]) -> bool
+    ensures { result ≡ not (is_none (code_of reserved_words word.now)) }
+{
+    word.len() > 1 && reserved_code(word).is_some()
+}
+
 fn may_be_user(word: &[u8]) -> bool
     ensures { result ≡ may_be_user word.now }
 {
-    !word.is_empty() && word.len() <= USER_LIMIT && reserved_code(word).is_none()
+    !word.is_empty() && word.len() <= USER_LIMIT && !is_reserved(word)
 }
 
 /// What stands after one space.

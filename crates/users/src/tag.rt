@@ -1,13 +1,20 @@
 //! Lines that are told one user of several.
-ghost use Rattle.std.specs.Prelude.{◌≡◌, ◌+◌, ◌-◌, ◌++◌, ◌≤◌, ◌==◌, [], IfNone, IfSome, OnErr, OnOk, length, position, take, vec_capacity, vec_len};
+ghost use Rattle.std.specs.Prelude.{◌≡◌, ◌+◌, ◌-◌, ◌*◌, ◌++◌, ◌∷◌, ◌≤◌, ◌<◌, ◌==◌, [], IfNone, IfSome, OnErr, OnOk, drop, length, position, take, vec_capacity, vec_len};
 ghost use Rattle.std.specs.List.{list_any};
 ghost use Rattle.users.specs.Tagged.{IsFirstLine, line_len, tagged, tagged_line};
 ghost use Rattle.users.specs.declared.sender.TheConstants.{USER_LIMIT};
 
+use crate::sender::USER_LIMIT;
 use std::alloc::AllocError;
 
 /// How many bytes are looked at together for a line feed, which a compiler does at once.
 const GROUP: usize = 8;
+
+/// The most bytes that are written one by one, which for a short reply costs less than to look for its lines and copy them.
+const SHORT: usize = 32;
+
+/// The most bytes that a byte of a reply comes to: a line feed alone is a user, a space and a line feed.
+const GROWTH: usize = USER_LIMIT + 3;
 
 /// Writes bytes one by one where there is room for them, which costs less than a copy of a few.
 #[inline(always)]
@@ -104,9 +111,45 @@ fn split_line(bytes: &[u8]) -> Option<(&[u8], &[u8])>
     Some((&bytes[..len], &bytes[len + 1..]))
 }
 
-/// Writes each line of some bytes for a user: the user, a space and the line. On want of memory `out` still begins with its old
-/// contents.
-pub fn push_tagged(user: &[u8], bytes: &[u8], out: &mut Vec<u8>) -> Result<(), AllocError>
+/// Writes the first line of some bytes one by one, with a line feed, where there is room for it. Answers what stands after it.
+fn push_first<'a>(bytes: &'a [u8], out: &mut Vec<u8>) -> &'a [u8]
+    requires { vec_len out.old + length bytes.now < vec_capacity out.old }
+    ensures items { out.new.items ≡ out.old.items ++ (take (line_len bytes.now) bytes.now ++ 10 ∷ []) }
+    ensures rest { result.now ≡ drop (line_len bytes.now + 1) bytes.now }
+    ensures len { vec_len out.new ≡ vec_len out.old + line_len bytes.now + 1 }
+    ensures capacity { vec_capacity out.new ≡ vec_capacity out.old }
+{
+    let mut rest = bytes;
+    'bytes: while let Some((byte, later)) = rest.split_first() {
+        if *byte == b'\n' {
+            break;
+        }
+        out.push_reserved(*byte);
+        rest = later;
+    }
+    out.push_reserved(b'\n');
+    match rest.split_first() {
+        Some((_, later)) => later,
+        None => rest,
+    }
+}
+
+/// Writes each line of a few bytes for a user, where there is room for all.
+fn push_short(user: &[u8], bytes: &[u8], out: &mut Vec<u8>)
+    requires user { length user.now ≤ USER_LIMIT }
+    requires room { vec_len out.old + length bytes.now * GROWTH ≤ vec_capacity out.old }
+    ensures { out.new.items ≡ out.old.items ++ tagged user.now bytes.now }
+{
+    let mut left = bytes;
+    'lines: while !left.is_empty() {
+        push_each(user, out);
+        out.push_reserved(b' ');
+        left = push_first(left, out);
+    }
+}
+
+/// Writes each line of some bytes for a user. On want of memory `out` still begins with its old contents.
+fn push_lines(user: &[u8], bytes: &[u8], out: &mut Vec<u8>) -> Result<(), AllocError>
     requires { length user.now ≤ USER_LIMIT }
     ensures ok { OnOk result (out.new.items ≡ out.old.items ++ tagged user.now bytes.now) }
     ensures begins { take (length out.old.items) out.new.items ≡ out.old.items }
@@ -116,5 +159,20 @@ pub fn push_tagged(user: &[u8], bytes: &[u8], out: &mut Vec<u8>) -> Result<(), A
         push_line(user, line, out)?;
         left = rest;
     }
+    Ok(())
+}
+
+/// Writes each line of some bytes for a user: the user, a space and the line. On want of memory `out` still begins with its old
+/// contents.
+pub fn push_tagged(user: &[u8], bytes: &[u8], out: &mut Vec<u8>) -> Result<(), AllocError>
+    requires { length user.now ≤ USER_LIMIT }
+    ensures ok { OnOk result (out.new.items ≡ out.old.items ++ tagged user.now bytes.now) }
+    ensures begins { take (length out.old.items) out.new.items ≡ out.old.items }
+{
+    if bytes.len() > SHORT {
+        return push_lines(user, bytes, out);
+    }
+    out.reserve(bytes.len() * GROWTH)?;
+    push_short(user, bytes, out);
     Ok(())
 }

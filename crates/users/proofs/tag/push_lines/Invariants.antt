@@ -1,6 +1,6 @@
 use Rattle.std.proofs.Common.{length}
 use Rattle.users.proofs.LineLemmas.{IsPart}
-use Rattle.users.proofs.tag.push_tagged.Given as goal
+use Rattle.users.proofs.tag.push_lines.Given as goal
 
 abbrev pub invariant-lines : goal.invariant-lines
 invariant-lines l = IsPart l.user l.bytes l.fn.out.items l.left l.out.items

@@ -1,6 +1,6 @@
 use Rattle.std.proofs.Common.{refl, [], append-nil, sym}
 use Rattle.users.proofs.LineLemmas.{front_stays, part_all, part_more, rest_shorter}
-use Rattle.users.proofs.tag.push_tagged.Goals as goal
+use Rattle.users.proofs.tag.push_lines.Goals as goal
 
 pub lines-init : goal.lines-init
 lines-init c = record { written = []; said = sym (append-nil c.args.out.now.items); whole = refl }
