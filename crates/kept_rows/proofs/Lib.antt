@@ -1,10 +1,12 @@
 pub mod ChangeLemmas
 pub mod FilledLemmas
 pub mod FlagLemmas
+pub mod FoundLemmas
 pub mod HeldLemmas
 pub mod LawLemmas
 pub mod ListingLemmas
 pub mod MoveLemmas
+pub mod NearLemmas
 pub mod NextLemmas
 pub mod NumberLemmas
 pub mod OneLemmas

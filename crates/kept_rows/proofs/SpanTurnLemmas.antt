@@ -1,13 +1,17 @@
 -- Spans from a tick on, found by a binary search, and the first tick that turns.
-use Rattle.std.proofs.Common.{◌≡◌, ℕ, zero, suc, ◌+◌, ◌<◌, ◌≤◌, false, List, [], ◌∷◌, length, get_or, drop, Ok, Err, refl, ap, sym, subst, ◌∙◌, arith}
+use Rattle.std.proofs.Common.{◌≡◌, ℕ, zero, suc, ◌+◌, ◌<◌, ◌≤◌, true, false, ◌||◌, List, [], ◌∷◌, ◌++◌, length, get_or, drop, Ok, Err, refl, ap, sym, subst, ◌∙◌, inl, inr, arith}
 use Rattle.std.specs.List.Sorted.{IsBinarySearchResult, IsNonDecreasingBy}
 use Rattle.std.specs.Ordering.{nat_cmp, ordering_index}
+use Rattle.std.proofs.lemmas.Bool.{or_cases}
 use Rattle.std.proofs.lemmas.Bool.Decides.{nat_tests}
 use Rattle.std.proofs.lemmas.Cmp.{ranked}
 use Rattle.tick_set.specs.declared.spans.Span.{Span}
 use Rattle.tick_set.specs.Runs.{spans_have, IsNormal, IsNormalFrom}
+use Rattle.tick_set.specs.Ticks.{within}
+use Rattle.tick_set.proofs.Between.{within_from, within_parts}
 use Rattle.tick_set.proofs.RunLemmas.{spans_have-below, IsNormalFrom-weaker}
 use Rattle.kept_rows.specs.Turning.{AreSpansFrom}
+use Rattle.exact.proofs.Truths.{or_false}
 
 -- the last ticks rise
 hi_at_least : (spans : List Span) (from j : ℕ) (d : Span) → IsNormalFrom from spans → j < length spans → from ≤ (get_or spans j d).hi
@@ -103,3 +107,39 @@ steady_before spans rest later s t u h e k l =
 
     none : (v : ℕ) → v < s.lo → spans_have (s ∷ later) v ≡ false
     none v m = spans_have-below (s ∷ later) s.lo v (omega arith, first.1) m
+
+-- ---- the first and the last tick
+ends-upto : (front spans : List Span) (last : Span) (from t : ℕ) → spans ≡ front ++ last ∷ [] → IsNormalFrom from spans → spans_have spans t ≡ true → (from ≤ t) × (t ≤ last.hi)
+ends-upto [] spans last from t is normal e =
+    let one : spans_have (last ∷ []) t ≡ true = ap (λ xs. spans_have xs t) (sym is) ∙ e in
+    let at : IsNormalFrom from (last ∷ []) = subst (λ xs. IsNormalFrom from xs) is normal in
+    let parts = within_parts last.lo last.hi t (sym (or_false (within last.lo last.hi t)) ∙ one) in (omega (arith, at.0, parts.0), parts.1)
+ends-upto (s ∷ front) spans last from t is normal e =
+    let all : (within s.lo s.hi t || spans_have (front ++ last ∷ []) t) ≡ true = ap (λ xs. spans_have xs t) (sym is) ∙ e in
+    let at : IsNormalFrom from (s ∷ (front ++ last ∷ [])) = subst (λ xs. IsNormalFrom from xs) is normal in
+    let order : s.lo ≤ s.hi = s.ordered in
+    elim (or_cases (within s.lo s.hi t) (spans_have (front ++ last ∷ []) t) all) [
+      | inl f ↦
+          let parts = within_parts s.lo s.hi t f in
+          let past : s.hi + 2 ≤ last.hi = last-past front last (s.hi + 2) at.1 in (omega (arith, at.0, parts.0), omega (arith, parts.1, past))
+      | inr f ↦ let later = ends-upto front (front ++ last ∷ []) last (s.hi + 2) t refl at.1 f in (omega (arith, order, at.0, later.0), later.1)
+    ]
+  where
+    last-past : (front : List Span) (last : Span) (from : ℕ) → IsNormalFrom from (front ++ last ∷ []) → from ≤ last.hi
+    last-past [] last from h = let order : last.lo ≤ last.hi = last.ordered in omega (arith, order, h.0)
+    last-past (s ∷ front) last from h =
+        let order : s.lo ≤ s.hi = s.ordered in
+        let later : s.hi + 2 ≤ last.hi = last-past front last (s.hi + 2) h.1 in
+        omega (arith, order, later, h.0)
+
+pub ends-within : (spans later front : List Span) (first last : Span) (t : ℕ) → IsNormal spans → spans ≡ first ∷ later → spans ≡ front ++ last ∷ [] →
+    spans_have spans t ≡ true → within first.lo last.hi t ≡ true
+ends-within spans later front first last t normal begins ends e =
+    let at : IsNormal (first ∷ later) = subst (λ xs. IsNormal xs) begins normal in
+    let from : IsNormalFrom first.lo (first ∷ later) = (omega arith, at.1) in
+    let parts = ends-upto front spans last first.lo t ends (subst (λ xs. IsNormalFrom first.lo xs) (sym begins) from) e in
+    within_from first.lo last.hi t parts.0 parts.1
+
+pub none-without-spans : (spans : List Span) (t : ℕ) → length spans ≡ 0 → spans_have spans t ≡ false
+none-without-spans [] t e = refl
+none-without-spans (s ∷ spans) t e = absurd (omega (arith, e))

@@ -5,7 +5,7 @@ use Rattle.std.specs.List.{list_any}
 use Rattle.std.proofs.lemmas.Nat.{mul-le}
 use Rattle.tick_set.specs.Ticks.{between}
 use Rattle.tick_set.proofs.Between.{any_between_at, any_between_found}
-use Rattle.kept_rows.specs.Listing.{passing_of, target_has, when_differ}
+use Rattle.kept_rows.specs.Listing.{IsNext, passing_of, target_has, when_differ}
 use Rattle.kept_rows.specs.Turning.{AgreeBetween, AreSteadyIn, IsNextDiffering}
 use Rattle.exact.proofs.Truths.{same_truth}
 
@@ -24,6 +24,16 @@ module _ (rows : ℕ → ℕ → Bool) (seen before now from to : ℕ) (low : se
   pub turn-none : (o : Option ℕ) → IfNone o (AreSteadyIn rows seen now from to) → IfNone o (AgreeBetween (λ c. rows c before) (λ c. rows c now) from to)
   turn-none None same = alike-steady to same
   turn-none (Some n) same = tt
+
+-- the first number that has a tick
+pub turn-ticks : (rows : ℕ → ℕ → Bool) (before now from to : ℕ) (o : Option ℕ) → IfSome o (IsNext rows from to) →
+    IfSome o (IsNextDiffering (λ c. rows c before) (λ c. rows c now) from to)
+turn-ticks rows before now from to None next = tt
+turn-ticks rows before now from to (Some n) next = record {
+  least = next.least;
+  below = next.below;
+  before = λ c h k. next.before c before h k ∙ sym (next.before c now h k);
+}
 
 -- ---- targets
 any-counted : (b : Bool) (p : ℕ → Bool) (xs : List ℕ) → (b && list_any p xs) ≡ list_any (λ c. b && p c) xs

@@ -5,6 +5,7 @@ pub mod Filled
 pub mod Flags
 pub mod Listing
 pub mod Moves
+pub mod Near
 pub mod Numbers
 pub mod Rising
 pub mod Rows

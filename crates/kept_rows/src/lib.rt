@@ -11,6 +11,7 @@ mod laws;
 mod listing;
 mod marks;
 mod moving;
+mod near;
 mod numbers;
 mod page;
 mod passing;
@@ -31,6 +32,7 @@ pub use laws::{
 };
 pub use listing::{Line, answer};
 pub use moving::{Move, moves};
+pub use near::Ends;
 pub use numbers::{number, place, size, size_within};
 pub use passing::{Passing, passed};
 pub use renewal::{Judge, refresh};

@@ -7,6 +7,7 @@ ghost use Rattle.tick_set.specs.Ticks.{within};
 ghost use Rattle.kept_rows.specs.Changes.{AreRising, rows_after};
 ghost use Rattle.kept_rows.specs.Listing.{lines_upto, some_row, target_has};
 ghost use Rattle.kept_rows.specs.Moves.{if_moved, is_in, move_between, move_of, others};
+ghost use Rattle.kept_rows.specs.Near.{AreFoundNumbers};
 ghost use Rattle.kept_rows.specs.Rising.{AscendsWithin};
 ghost use Rattle.kept_rows.specs.Rows.{row_has};
 ghost use Rattle.kept_rows.specs.Slots.{AreIn, IsNextAt};
@@ -267,9 +268,81 @@ fn ticks_kept<S: TickSet>(
     Ok(ticks)
 }
 
+// What is left without the ticks of the target's rows that no change is of.
+fn without_others<S: Turning>(
+    alloc: Global,
+    kept: &KeptRows<S>,
+    group: &[Change<S>],
+    from: u32,
+    to: u32,
+    changed: Changed<S>,
+) -> Result<Changed<S>, AllocError>
+    requires { AreRising 4294967296 group.now }
+    ensures gained { IfOk result (λ left. (t : ℕ) → S.member left.gained t
+        ≡ (S.member changed.gained t && not (some_row (others group.now (row_has S.member kept.now)) from to t))) }
+    ensures lost { IfOk result (λ left. (t : ℕ) → S.member left.lost t
+        ≡ (S.member changed.lost t && not (some_row (others group.now (row_has S.member kept.now)) from to t))) }
+{
+    match numbers_near(alloc, kept, from, to, &changed)? {
+        Some(numbers) => without_rows(alloc, kept, group, from, to, &numbers, changed),
+        None => without_all(alloc, kept, group, from, to, changed),
+    }
+}
+
+// The numbers of the rows that may share a tick with what changed, where that is told.
+fn numbers_near<S: Turning>(
+    alloc: Global,
+    kept: &KeptRows<S>,
+    from: u32,
+    to: u32,
+    changed: &Changed<S>,
+) -> Result<Option<Vec<u32>>, AllocError>
+    ensures gained { IfOk result (λ numbers. IfSome numbers (λ numbers. AreFoundNumbers (S.member changed.now.gained) (row_has S.member kept.now) from to numbers.items)) }
+    ensures lost { IfOk result (λ numbers. IfSome numbers (λ numbers. AreFoundNumbers (S.member changed.now.lost) (row_has S.member kept.now) from to numbers.items)) }
+{
+    let mut numbers = Vec::new(alloc);
+    if !kept.find(from, to, &changed.gained, &mut numbers)? {
+        return Ok(None);
+    }
+    if !kept.find(from, to, &changed.lost, &mut numbers)? {
+        return Ok(None);
+    }
+    Ok(Some(numbers))
+}
+
+// What is left without the ticks of the rows of these numbers that no change is of, where no other row of the target has any
+// that are left.
+fn without_rows<S: Turning>(
+    alloc: Global,
+    kept: &KeptRows<S>,
+    group: &[Change<S>],
+    from: u32,
+    to: u32,
+    numbers: &[u32],
+    changed: Changed<S>,
+) -> Result<Changed<S>, AllocError>
+    requires group { AreRising 4294967296 group.now }
+    requires gained { AreFoundNumbers (S.member changed.gained) (row_has S.member kept.now) from to numbers.now }
+    requires lost { AreFoundNumbers (S.member changed.lost) (row_has S.member kept.now) from to numbers.now }
+    ensures gained { IfOk result (λ left. (t : ℕ) → S.member left.gained t
+        ≡ (S.member changed.gained t && not (some_row (others group.now (row_has S.member kept.now)) from to t))) }
+    ensures lost { IfOk result (λ left. (t : ℕ) → S.member left.lost t
+        ≡ (S.member changed.lost t && not (some_row (others group.now (row_has S.member kept.now)) from to t))) }
+{
+    let mut left = changed;
+    let mut rest = numbers;
+    'rows: while let Some((number, later)) = rest.split_first() {
+        if from <= *number && *number < to {
+            left = without_row(alloc, kept, group, *number, left)?;
+        }
+        rest = later;
+    }
+    Ok(left)
+}
+
 // What is left without the ticks of the target's rows that no change is of. It stops where nothing is left, and looks
 // only at rows that may share a slot of ticks with what changed.
-fn without_others<S: Turning>(
+fn without_all<S: Turning>(
     alloc: Global,
     kept: &KeptRows<S>,
     group: &[Change<S>],

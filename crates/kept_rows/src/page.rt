@@ -1,11 +1,13 @@
 //! Pages: the sets of 16 numbers one after another.
 ghost use Rattle.std.specs.Prelude.{◌≡◌, ◌<◌, ◌≤◌, ◌==◌, ◌||◌, ℕ, [], true, false, length, slice_get, slice_set, if◌then◌else◌, IfOk, IfSome, IfNone};
 ghost use Rattle.std.specs.Option.{option_copied};
+ghost use Rattle.tick_set.specs.Ticks.{within};
 ghost use Rattle.kept_rows.specs.Listing.{IsNext};
 ghost use Rattle.kept_rows.specs.Rows.{IsBlankPage, IsPage, is_whole, page_has};
 ghost use Rattle.kept_rows.specs.Slots.{AreIn};
 ghost use Rattle.kept_rows.specs.Turning.{IsSteady};
 
+use crate::near::Ends;
 use crate::slots::Slots;
 use crate::turning::Turning;
 use std::alloc::{AllocError, Global};
@@ -146,6 +148,17 @@ impl<S: Turning> Page<S> {
             at += 1;
         }
         end
+    }
+
+    /// The first and the last tick of a place.
+    pub(crate) fn ends(&self, at: usize) -> Option<Ends>
+        ensures some { IfSome result (λ ends. (t : ℕ) → page_has S.member self.now at t ≡ true → within ends.lo ends.hi t ≡ true) }
+        ensures none { IfNone result ((t : ℕ) → page_has S.member self.now at t ≡ false) }
+    {
+        match self.get(at) {
+            Some(ticks) => ticks.ends(),
+            None => None,
+        }
     }
 
     /// The slots of the ticks of all places.

@@ -1,6 +1,7 @@
 //! The rows of all bindings, as a table of pages by number.
 ghost use Rattle.std.specs.Prelude.{◌≡◌, ◌<◌, ◌≤◌, ◌*◌, ◌/◌, ◌^◌, ◌==◌, ◌||◌, ℕ, [], true, false, length, slice_index_or, if◌then◌else◌, IfOk, IfSome, IfNone, OnErr, OnOk};
 ghost use Rattle.std.specs.Option.{SomeIff};
+ghost use Rattle.tick_set.specs.TickList.{has};
 ghost use Rattle.kept_rows.specs.Listing.{HaveNone, IsNext};
 ghost use Rattle.kept_rows.specs.Rows.{HasRoom, IsBlankPage, is_made, is_whole, row_has};
 ghost use Rattle.kept_rows.specs.Slots.{HaveNoneAt, IsNextAt};
@@ -11,6 +12,7 @@ use crate::change::spare_page;
 use crate::filled::Filled;
 use crate::flags::Flags;
 use crate::marks::Marks;
+use crate::near::{Asked, Near};
 use crate::page::{PAGE, Page};
 use crate::slots::Slots;
 use crate::turning::Turning;
@@ -32,6 +34,8 @@ pub struct KeptRows<S: TickSet> {
     turns: Turns,
     // In which slots the rows may have ticks, where that is told.
     marks: Marks,
+    // Near which ticks the rows of a target are, where that is told.
+    near: Near,
     // Which numbers have a row with ticks. They stand last, beside what a query has after its rows.
     flags: Flags,
 }
@@ -40,6 +44,7 @@ impl<S: TickSet> Model for KeptRows<S> {
     ghost use Rattle.std.specs.Prelude.{◌≡◌, ◌*◌, ℕ, List, false, length};
     ghost use Rattle.kept_rows.specs.Filled.{AreFilled};
     ghost use Rattle.kept_rows.specs.Flags.{AreFlagged};
+    ghost use Rattle.kept_rows.specs.Near.{AreInBuckets};
     ghost use Rattle.kept_rows.specs.Rows.{row_has};
     ghost use Rattle.kept_rows.specs.Slots.{AreMarked};
     ghost use Rattle.kept_rows.specs.Turning.{AreSteadyToEnds};
@@ -53,7 +58,8 @@ impl<S: TickSet> Model for KeptRows<S> {
         × AreSteadyToEnds (row_has S.member a.pages.items) a.turns
         × AreFilled (row_has S.member a.pages.items) a.filled
         × AreMarked (row_has S.member a.pages.items) a.marks
-        × AreFlagged (row_has S.member a.pages.items) a.flags };
+        × AreFlagged (row_has S.member a.pages.items) a.flags
+        × AreInBuckets (row_has S.member a.pages.items) a.near };
 }
 
 impl<S: TickSet> KeptRows<S> {
@@ -73,6 +79,7 @@ impl<S: TickSet> KeptRows<S> {
             nothing: S::empty(alloc),
             turns,
             marks: Marks::none(alloc),
+            near: Near::none(alloc),
         })
     }
 
@@ -161,6 +168,25 @@ impl<S: Turning> KeptRows<S> {
         self.marks.next(&self.pages, from, to, slots)
     }
 
+    /// Adds the numbers from `from` up to `to`, without `to`, whose rows share a tick with these, and maybe some others of
+    /// them. Answers whether these are all, as they may be where [`KeptRows::file`] was called for a target of these numbers.
+    pub(crate) fn find(
+        &self,
+        from: u32,
+        to: u32,
+        ticks: &S,
+        found: &mut Vec<u32>,
+    ) -> Result<bool, AllocError>
+        ensures more { OnOk result ((c : ℕ) → has found.old.items c ≡ true → has found.new.items c ≡ true) }
+        ensures all { IfOk result (λ is_all. is_all ≡ true → (c t : ℕ) → from ≤ c → c < to
+            → S.member ticks.now t ≡ true → row_has S.member self.now c t ≡ true → has found.new.items c ≡ true) }
+    {
+        match ticks.ends() {
+            Some(ends) => self.near.find(Asked { from, to, ends }, found),
+            None => Ok(true),
+        }
+    }
+
     /// Writes the row of a number, into the spare page where the number's page isn't made.
     pub(crate) fn put(&mut self, number: u32, ticks: S, spare: Page<S>)
         requires there { number / 16 < length self.old }
@@ -171,12 +197,14 @@ impl<S: Turning> KeptRows<S> {
         ensures rows { (c t : ℕ) → row_has S.member self.new c t
             ≡ (if c == number then S.member ticks t else row_has S.member self.old c t) }
     {
+        let before = self.row(number).ends();
         let end = ticks.steady_until(self.turns.seen);
         let at = number as usize;
         self.turns.lower(number, end);
         let has_ticks = !ticks.is_empty();
         self.filled.note(at, has_ticks);
         self.flags.note(number, has_ticks);
+        self.near.refile(number, before, ticks.ends());
         let page = &mut self.pages[at / PAGE];
         page.put(at % PAGE, ticks, spare);
         self.marks.renew(&self.pages, at / PAGE);
@@ -201,6 +229,15 @@ impl<S: Turning> KeptRows<S> {
         ensures { self.new ≡ self.old }
     {
         self.marks = Marks::new(alloc, &self.pages)?;
+        Ok(())
+    }
+
+    /// Notes for targets of so many numbers near which ticks their rows are, so that [`KeptRows::find`] tells which of them have
+    /// some ticks. It takes some 16 bytes for each number. No row changes.
+    pub fn file(&mut self, alloc: Global, width: u32) -> Result<(), AllocError>
+        ensures { self.new ≡ self.old }
+    {
+        self.near = Near::new(alloc, &self.pages, width)?;
         Ok(())
     }
 

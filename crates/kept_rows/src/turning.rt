@@ -1,9 +1,11 @@
 //! Sets of ticks that tell how long they stay as they are, and in which slots they have ticks.
-ghost use Rattle.std.specs.Prelude.{◌≡◌, ◌<◌, ◌≤◌, ℕ};
+ghost use Rattle.std.specs.Prelude.{◌≡◌, ◌<◌, ◌≤◌, ℕ, true, false, IfNone, IfSome};
+ghost use Rattle.tick_set.specs.Ticks.{within};
 ghost use Rattle.kept_rows.specs.Slots.{AreIn};
 ghost use Rattle.tick_set.specs.Runs.{IsNormal, spans_have};
 ghost use Rattle.kept_rows.specs.Turning.{AreSpansFrom, IsSteady};
 
+use crate::near::Ends;
 use crate::slots::Slots;
 use interval_set::IntervalSet;
 use tick_set::{Span, TickSet};
@@ -18,6 +20,11 @@ pub trait Turning: TickSet {
     /// The slots of its ticks.
     fn slots(&self) -> Slots
         ensures { AreIn (Self.member self.now) result };
+
+    /// Its first and its last tick. None where it has none.
+    fn ends(&self) -> Option<Ends>
+        ensures some { IfSome result (λ ends. (t : ℕ) → Self.member self.now t ≡ true → within ends.lo ends.hi t ≡ true) }
+        ensures none { IfNone result ((t : ℕ) → Self.member self.now t ≡ false) };
 }
 
 impl Turning for IntervalSet {
@@ -28,6 +35,10 @@ impl Turning for IntervalSet {
 
     fn slots(&self) -> Slots {
         slots_of(self.spans())
+    }
+
+    fn ends(&self) -> Option<Ends> {
+        ends_of(self.spans())
     }
 }
 
@@ -52,6 +63,24 @@ fn from_tick(spans: &[Span], t: u32) -> &[Span]
         Ok(at) => spans.split_at(at).1,
         Err(at) => spans.split_at(at).1,
     }
+}
+
+// The first and the last tick of spans.
+fn ends_of(spans: &[Span]) -> Option<Ends>
+    requires { IsNormal spans.now }
+    ensures some { IfSome result (λ ends. (t : ℕ) → spans_have spans.now t ≡ true → within ends.lo ends.hi t ≡ true) }
+    ensures none { IfNone result ((t : ℕ) → spans_have spans.now t ≡ false) }
+{
+    let Some((first, _)) = spans.split_first() else {
+        return None;
+    };
+    let Some((last, _)) = spans.split_last() else {
+        return None;
+    };
+    Some(Ends {
+        lo: first.lo,
+        hi: last.hi,
+    })
 }
 
 // The slots of the ticks of spans.

@@ -119,7 +119,7 @@ impl LiveQuery {
         fitting_queries_can_be_asked();
         let columns = columns_of(alloc, &query, world.store)?;
         let lo = first_told(info.kind, info.entry, now);
-        let rows = rows_between(
+        let mut rows = rows_between(
             alloc,
             &query,
             &columns,
@@ -130,6 +130,7 @@ impl LiveQuery {
             probes,
         )?;
         let targets = targets_of(&columns, query.targets.items().len());
+        file_rows(alloc, &mut rows, targets)?;
         let lone = lone_of(&query, &columns);
         Ok(LiveQuery {
             name: info.name,
@@ -571,6 +572,20 @@ fn kept_before(kind: QueryKind, judged: u32) -> u32
         QueryKind::Keep => judged,
         QueryKind::Watch => 0,
     }
+}
+
+// Files the rows by their targets where a target may have more than one, so that what it shares with others is to be found.
+fn file_rows(
+    alloc: Global,
+    rows: &mut KeptRows<IntervalSet>,
+    targets: Targets,
+) -> Result<(), AllocError>
+    ensures { rows.new ≡ rows.old }
+{
+    if targets.width > 1 {
+        rows.file(alloc, targets.width)?;
+    }
+    Ok(())
 }
 
 // How the numbers of the bindings of columns are shared among the first so many, which are the targets.

@@ -1,9 +1,9 @@
 use Rattle.std.proofs.Common.{◌+◌, ◌*◌, ◌/◌, ◌%◌, refl, subst, inl, inr, arith}
 use Rattle.std.proofs.lemmas.Bool.{cases_lt}
 use Rattle.kept_rows.specs.Filled.{AreFilled}
-use Rattle.kept_rows.specs.Listing.{IsNext}
+use Rattle.kept_rows.specs.Listing.{HaveNone, IsNext}
 use Rattle.kept_rows.specs.Rows.{row_has}
-use Rattle.kept_rows.proofs.NextLemmas.{below-if, next-found, none-upto}
+use Rattle.kept_rows.proofs.NextLemmas.{below-if, next-found, none-below, none-upto, past-if}
 use Rattle.kept_rows.proofs.rows.KeptRows.next.Goals as goal
 
 pub returns-in-Some-next-clause-some : goal.returns-in-Some-next-clause-some
@@ -11,6 +11,12 @@ returns-in-Some-next-clause-some g c =
     below-if c.number_below.result (c.pages.number / 16 * 16 + c.in-Some-next.found) c.args.to (IsNext (row_has g.S.TickSet.member c.args.self.now) c.args.from c.args.to) c.number_below.ensures
     (next-found g.S.TickSet.member c.args.self.now c.in-Some.page.now c.args.from c.args.to (c.pages.number / 16) (c.pages.number % 16) c.in-Some-next.found (c.pages.number / 16 * 16 + c.in-Some-next.found)
     c.in-Some.ensures.some.1 (omega (arith, c.pages.invariant.from)) (λ n t h k. c.pages.invariant.before n t h (omega (arith, k))) c.in-Some-next.ensures.some refl)
+
+pub returns-in-Some-next-clause-none : goal.returns-in-Some-next-clause-none
+returns-in-Some-next-clause-none g c =
+    past-if c.number_below.result (c.pages.number / 16 * 16 + c.in-Some-next.found) c.args.to (HaveNone (row_has g.S.TickSet.member c.args.self.now) c.args.from c.args.to) c.number_below.ensures
+    (none-below g.S.TickSet.member c.args.self.now c.in-Some.page.now c.args.from c.args.to (c.pages.number / 16) (c.pages.number % 16) c.in-Some-next.found
+    c.in-Some.ensures.some.1 (λ n t h k. c.pages.invariant.before n t h (omega (arith, k))) c.in-Some-next.ensures.some)
 
 pub pages-init : goal.pages-init
 pages-init g c =

@@ -2,8 +2,12 @@ use Rattle.std.proofs.Common.{subst, ◌∙◌, arith}
 use Rattle.kept_rows.specs.Rows.{row_has}
 use Rattle.kept_rows.specs.Turning.{AreSteadyIn}
 use Rattle.std.specs.Prelude.{IfNone, IfSome}
-use Rattle.kept_rows.proofs.TurnLemmas.{turn-next, turn-none}
+use Rattle.kept_rows.proofs.TurnLemmas.{turn-next, turn-none, turn-ticks}
 use Rattle.kept_rows.proofs.rows.KeptRows.next_turning.Goals as goal
+
+pub returns-then-before-self-clause-some : goal.returns-then-before-self-clause-some
+returns-then-before-self-clause-some g c =
+    turn-ticks (row_has g.S.TickSet.member c.args.self.now) c.args.before c.args.now c.args.from c.args.to c.next.result c.next.ensures.some
 
 pub returns-clause-some : goal.returns-clause-some
 returns-clause-some g c =

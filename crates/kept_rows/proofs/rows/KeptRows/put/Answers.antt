@@ -5,6 +5,7 @@ use Rattle.kept_rows.specs.Rows.{row_has}
 use Rattle.kept_rows.specs.Slots.{AreMarked}
 use Rattle.kept_rows.proofs.FilledLemmas.{filled-alike}
 use Rattle.kept_rows.proofs.FlagLemmas.{flagged_alike}
+use Rattle.kept_rows.proofs.NearLemmas.{filed-anew}
 use Rattle.kept_rows.proofs.PageLemmas.{other_page, row_has-put}
 use Rattle.kept_rows.proofs.SteadyLemmas.{steady-alike}
 use Rattle.kept_rows.proofs.rows.KeptRows.put.Goals as goal
@@ -37,4 +38,6 @@ invariant_of-self g c =
           ∙ ap (λ b. if b then member c.args.ticks t else rows n t) (other_page n c.args.number other))),
       flagged_alike after _ c.note-2.new.self.words.items written
           (c.note-2.ensures rows (member c.args.ticks) c.self.invariant.5 (λ e. c.is_empty-has_ticks.ensures.0 (grind (arith, not-false, e)))),
+      filed-anew rows _ c.args.number (member c.args.ticks) c.self.inside.near c.refile.new.self c.ends.result written c.ends.ensures.some c.ends.ensures.none
+          c.refile.ensures.others c.refile.ensures.here c.self.invariant.6,
     )

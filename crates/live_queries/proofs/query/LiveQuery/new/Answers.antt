@@ -1,5 +1,6 @@
 use Rattle.std.proofs.Common.{ℕ, ◌≤◌, ◌&&◌, List, length, take, drop, refl, sym, ap, ◌∙◌, subst, arith}
 use Rattle.std.specs.Option.{ForSome}
+use Rattle.tick_set.specs.declared.spans.Span.{Span}
 use Rattle.tick_set.specs.Runs.{spans_have}
 use Rattle.tick_set.specs.Ticks.{within}
 use Rattle.formula.specs.Tree.{resolved_view}
@@ -40,7 +41,8 @@ invariant_of-result g c = (
   (anew_is_kept (catalog_of c.args.world.now.store.now) _ c.requires.resolved
       (c.fitting_queries_can_be_asked.ensures.over (resolved_view c.args.query) c.requires.resolved) c.in_ok-columns.ensures
       (few_numbers (catalog_of c.args.world.now.store.now) (resolved_view c.args.query) c.in_ok-columns.columns.items c.requires.resolved c.in_ok-columns.ensures c.requires.size)
-      (subst (λ (cs : List Column). HasRoom c.in_ok-rows.rows (size_of (column_variables cs))) c.deref.ensures.value c.in_ok-rows.ensures.room)
+      (subst (λ (rows : List (List (List Span))). HasRoom rows (size_of (column_variables c.in_ok-columns.columns.items))) (sym c.file_rows.ensures)
+      (subst (λ (cs : List Column). HasRoom c.in_ok-rows.rows (size_of (column_variables cs))) c.deref.ensures.value c.in_ok-rows.ensures.room))
       c.requires.ends.window c.requires.ends.last),
   c.targets_of-targets.ensures.count ∙ (λ i. size_of (column_variables (take (length (c.items.ensures i)) (c.deref-2.ensures.value i)))),
   c.targets_of-targets.ensures.width ∙ (λ i. size_of (column_variables (drop (length (c.items.ensures i)) (c.deref-2.ensures.value i)))),
@@ -52,17 +54,22 @@ pub returns-clause-registered : goal.returns-clause-registered
 returns-clause-registered g c =
     anew_is_registered (told_world c.args.world.now) c.args.now (told_info c.args.info.now) _ c.first_told-lo.result refl c.requires.fits
     c.in_ok-columns.ensures c.first_told-lo.ensures.told
+    (subst (λ (rows : List (List (List Span))). AreFullRows (row_has spans_have rows) (counts (column_variables c.in_ok-columns.columns.items))
+    (λ n t. within c.first_told-lo.result c.args.info.now.expiry t
+    && holds_full (told_world c.args.world.now) (resolved_view c.args.query) c.args.info.now.expiry (object_at_number c.in_ok-columns.columns.items n) t))
+    (sym c.file_rows.ensures)
     (subst (λ (cs : List Column). AreFullRows (row_has spans_have c.in_ok-rows.rows) (counts (column_variables cs))
     (λ n t. within c.first_told-lo.result c.args.info.now.expiry t
     && holds_full (told_world c.args.world.now) (resolved_view c.args.query) c.args.info.now.expiry (object_at_number cs n) t))
-    c.deref.ensures.value c.in_ok-rows.ensures.rows)
+    c.deref.ensures.value c.in_ok-rows.ensures.rows))
 
 pub returns-clause-kept : goal.returns-clause-kept
 returns-clause-kept g c =
     (anew_is_kept (catalog_of c.args.world.now.store.now) _ c.requires.resolved
     (c.fitting_queries_can_be_asked.ensures.over (resolved_view c.args.query) c.requires.resolved) c.in_ok-columns.ensures
     (few_numbers (catalog_of c.args.world.now.store.now) (resolved_view c.args.query) c.in_ok-columns.columns.items c.requires.resolved c.in_ok-columns.ensures c.requires.size)
-    (subst (λ (cs : List Column). HasRoom c.in_ok-rows.rows (size_of (column_variables cs))) c.deref.ensures.value c.in_ok-rows.ensures.room)
+    (subst (λ (rows : List (List (List Span))). HasRoom rows (size_of (column_variables c.in_ok-columns.columns.items))) (sym c.file_rows.ensures)
+    (subst (λ (cs : List Column). HasRoom c.in_ok-rows.rows (size_of (column_variables cs))) c.deref.ensures.value c.in_ok-rows.ensures.room))
     c.requires.ends.window c.requires.ends.last)
 
 pub returns-in_err-rows-clause-reads : goal.returns-in_err-rows-clause-reads
@@ -74,6 +81,13 @@ returns-in_err-rows-clause-reads g c = record {
 
 pub returns-clause-reads : goal.returns-clause-reads
 returns-clause-reads g c = record {
+  least = omega arith;
+  most = (most_over (sizes_of (catalog_of c.args.world.now.store.now) (resolved_view c.args.query)) (resolved_view c.args.query) _ _ c.first_told-lo.result
+      c.args.info.now.entry c.args.info.now.expiry c.first_told-lo.ensures.least c.in_ok-rows.ensures.reads.most);
+}
+
+pub returns-in_err-file_rows-clause-reads : goal.returns-in_err-file_rows-clause-reads
+returns-in_err-file_rows-clause-reads g c = record {
   least = omega arith;
   most = (most_over (sizes_of (catalog_of c.args.world.now.store.now) (resolved_view c.args.query)) (resolved_view c.args.query) _ _ c.first_told-lo.result
       c.args.info.now.entry c.args.info.now.expiry c.first_told-lo.ensures.least c.in_ok-rows.ensures.reads.most);

@@ -4,7 +4,7 @@ use Rattle.kept_rows.specs.Rows.{row_has}
 use Rattle.kept_rows.specs.Slots.{IsNextAt}
 use Rattle.kept_rows.proofs.MoveLemmas.{others-end, others-step-if}
 use Rattle.kept_rows.proofs.SlotLemmas.{in_less}
-use Rattle.kept_rows.proofs.moving.without_others.Goals as goal
+use Rattle.kept_rows.proofs.moving.without_all.Goals as goal
 
 pub rows-preserved : goal.rows-preserved
 rows-preserved g c =

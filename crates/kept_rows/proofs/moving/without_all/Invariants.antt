@@ -3,7 +3,7 @@ use Rattle.kept_rows.specs.Listing.{some_row}
 use Rattle.kept_rows.specs.Moves.{others}
 use Rattle.kept_rows.specs.Rows.{row_has}
 use Rattle.kept_rows.specs.Slots.{AreIn}
-use Rattle.kept_rows.proofs.moving.without_others.Given as goal
+use Rattle.kept_rows.proofs.moving.without_all.Given as goal
 
 -- what is left, without the ticks of the rows from this number on
 abbrev pub invariant-rows : goal.invariant-rows
