@@ -68,8 +68,8 @@ fn first_near<M: Ledger>(
     ensures cost { (n : ℕ) → nearest < 2 ^ n → probes.new ≤ probes.old + n + 2 }
     ensures least { probes.old ≤ probes.new }
 {
-    let (low, high) = around_first(q, limit, guess, nearest, probes);
-    bisect_first(q, limit, low, high, nearest, probes)
+    let round = around_first(q, limit, guess, nearest, probes);
+    bisect_first(q, limit, round, nearest, probes)
 }
 
 // Two numbers round the first at which the value is at most the limit: it is above below the one, and not at the
@@ -104,20 +104,18 @@ fn around_first<M: Ledger>(
 fn bisect_first<M: Ledger>(
     q: &Quad,
     limit: i128,
-    from: u32,
-    until: u32,
+    round: (u32, u32),
     nearest: u32,
     probes: &mut Steps<M>,
 ) -> u32
     requires falls { DropsTo (squared_distance_at q.now) nearest }
-    requires round { BracketsFirst (squared_distance_at q.now) limit nearest from until }
+    requires round { BracketsFirst (squared_distance_at q.now) limit nearest round.0 round.1 }
     ensures bound { result ≤ nearest }
     ensures first { IsFirstNear (squared_distance_at q.now) limit nearest result }
-    ensures cost { (n : ℕ) → until - from < 2 ^ n → probes.new ≤ probes.old + n }
+    ensures cost { (n : ℕ) → round.1 - round.0 < 2 ^ n → probes.new ≤ probes.old + n }
     ensures least { probes.old ≤ probes.new }
 {
-    let mut low = from;
-    let mut high = until;
+    let (mut low, mut high) = round;
     // The value is above the limit below `low`, and not at `high`.
     while low < high {
         let middle = low + (high - low) / 2;
@@ -149,8 +147,8 @@ fn last_near<M: Ledger>(
     ensures cost { (n : ℕ) → last - nearest < 2 ^ n → probes.new ≤ probes.old + n + 2 }
     ensures least { probes.old ≤ probes.new }
 {
-    let (low, high) = around_last(q, limit, guess, nearest, last, probes);
-    bisect_last(q, limit, low, high, nearest, last, probes)
+    let round = around_last(q, limit, guess, nearest, last, probes);
+    bisect_last(q, limit, round, nearest, last, probes)
 }
 
 // Two numbers round the last at which the value is at most the limit: it is not above at the one, and above past the
@@ -187,22 +185,20 @@ fn around_last<M: Ledger>(
 fn bisect_last<M: Ledger>(
     q: &Quad,
     limit: i128,
-    from: u32,
-    until: u32,
+    round: (u32, u32),
     nearest: u32,
     last: u32,
     probes: &mut Steps<M>,
 ) -> u32
     requires rises { RisesIn (squared_distance_at q.now) nearest last }
-    requires round { BracketsLast (squared_distance_at q.now) limit nearest last from until }
+    requires round { BracketsLast (squared_distance_at q.now) limit nearest last round.0 round.1 }
     ensures from { nearest ≤ result }
     ensures bound { result ≤ last }
     ensures last { IsLastNear (squared_distance_at q.now) limit nearest last result }
-    ensures cost { (n : ℕ) → until - from < 2 ^ n → probes.new ≤ probes.old + n }
+    ensures cost { (n : ℕ) → round.1 - round.0 < 2 ^ n → probes.new ≤ probes.old + n }
     ensures least { probes.old ≤ probes.new }
 {
-    let mut low = from;
-    let mut high = until;
+    let (mut low, mut high) = round;
     // The value is above the limit above `high`, and not at `low`.
     while low < high {
         let middle = high - (high - low) / 2;

@@ -5,7 +5,7 @@ use Rattle.distance_crossing.proofs.Bisection.{IsHalved}
 use Rattle.distance_crossing.proofs.near.bisect_first.Given as goal
 
 abbrev pub invariant-loop-low : goal.invariant-loop-low
-invariant-loop-low g l = BracketsFirst (squared_distance_at l.q) l.fn.limit l.fn.nearest l.low l.high × IsHalved (l.fn.until - l.fn.from) (l.high - l.low) l.fn.probes l.probes
+invariant-loop-low g l = BracketsFirst (squared_distance_at l.q) l.fn.limit l.fn.nearest l.low l.high × IsHalved (l.fn.round.1 - l.fn.round.0) (l.high - l.low) l.fn.probes l.probes
 
 abbrev pub decreases-loop-low : goal.decreases-loop-low
 decreases-loop-low g l = l.high - l.low
