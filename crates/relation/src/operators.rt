@@ -18,7 +18,7 @@ use crate::Relation;
 use crate::operation::Operation;
 use crate::part::Part;
 use crate::union::vars_of_both;
-use crate::walk::walk;
+use crate::walk::{Parts, walk};
 use fixed_point::UntilForm;
 use formula::Binding;
 use std::alloc::{AllocError, Global};
@@ -125,15 +125,11 @@ impl<'d, S: Temporal> Relation<'d, S> {
         ensures frame { IfOk result (λ r. SameFrame r self.now) }
     {
         let mut made = Relation::empty(alloc, vars, self.domains(), self.window());
-        walk(
-            alloc,
-            &mut made,
-            operation,
-            Binding::new(),
-            vars,
-            &self.part(),
-            &other.part(),
-        )?;
+        let parts = Parts {
+            left: self.part(),
+            right: other.part(),
+        };
+        walk(alloc, &mut made, operation, Binding::new(), vars, &parts)?;
         Ok(made)
     }
 

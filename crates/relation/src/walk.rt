@@ -11,6 +11,13 @@ use formula::Binding;
 use std::alloc::{AllocError, Global};
 use until_merge::Temporal;
 
+// A part of each of two relations.
+#[derive(Drop)]
+pub(crate) struct Parts<'a, S> {
+    pub(crate) left: Part<'a, S>,
+    pub(crate) right: Part<'a, S>,
+}
+
 // Adds the rows of the bindings that continue the key by objects for these variables. Each part has the rows that
 // agree with the key.
 pub(crate) fn walk<S: Temporal>(
@@ -19,14 +26,13 @@ pub(crate) fn walk<S: Temporal>(
     operation: Operation,
     key: Binding,
     vars: &[u8],
-    left: &Part<'_, S>,
-    right: &Part<'_, S>,
+    parts: &Parts<'_, S>,
 ) -> Result<(), AllocError>
-    requires { CanWalk S.member made.old key vars.now left.now right.now }
-    ensures { OnOk result (HasWalked S.member operation key vars.now left.now right.now made.old made.new) }
+    requires { CanWalk S.member made.old key vars.now parts.now.left parts.now.right }
+    ensures { OnOk result (HasWalked S.member operation key vars.now parts.now.left parts.now.right made.old made.new) }
 {
     let Some((var, later)) = vars.split_first() else {
-        return add(alloc, made, operation, key, left, right);
+        return add(alloc, made, operation, key, parts);
     };
     let domains = made.domains();
     let mut from = 0;
@@ -34,15 +40,16 @@ pub(crate) fn walk<S: Temporal>(
         operation,
         *var,
         domains.of(*var),
-        left,
-        right,
+        &parts.left,
+        &parts.right,
         from,
     ) {
         let mut longer = key;
         longer.push(id);
-        let left = left.fixed(*var, id);
-        let right = right.fixed(*var, id);
-        walk(alloc, made, operation, longer, later, &left, &right)?;
+        let left = parts.left.fixed(*var, id);
+        let right = parts.right.fixed(*var, id);
+        let fixed = Parts { left, right };
+        walk(alloc, made, operation, longer, later, &fixed)?;
         from = u64::from(id) + 1;
     }
     Ok(())
@@ -54,15 +61,14 @@ fn add<S: Temporal>(
     made: &mut Relation<'_, S>,
     operation: Operation,
     key: Binding,
-    left: &Part<'_, S>,
-    right: &Part<'_, S>,
+    parts: &Parts<'_, S>,
 ) -> Result<(), AllocError>
-    requires { CanWalk S.member made.old key [] left.now right.now }
-    ensures { OnOk result (HasWalked S.member operation key [] left.now right.now made.old made.new) }
+    requires { CanWalk S.member made.old key [] parts.now.left parts.now.right }
+    ensures { OnOk result (HasWalked S.member operation key [] parts.now.left parts.now.right made.old made.new) }
 {
     let nothing = S::empty(alloc);
-    let left = set_or(left.rows, &nothing);
-    let right = set_or(right.rows, &nothing);
+    let left = set_or(parts.left.rows, &nothing);
+    let right = set_or(parts.right.rows, &nothing);
     let set = operation.combine(alloc, left, right, made.window())?;
     made.put(key, set)?;
     Ok(())

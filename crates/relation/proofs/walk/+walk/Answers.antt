@@ -7,8 +7,8 @@ use Rattle.relation.proofs.walk.+walk.Goals as goal
 pub objects-init : goal.objects-init
 objects-init g t c =
     let member = g.S.TickSet.member in
-    let can = subst (λ (vs : List ℕ). CanWalk member c.args.made.now c.args.key vs c.args.left.now c.args.right.now) c.in-Some.ensures.cases.0 c.requires in
-    walking_none member c.args.operation c.args.key c.in-Some.var.now c.in-Some.later.now c.args.left.now c.args.right.now c.args.made.now can
+    let can = subst (λ (vs : List ℕ). CanWalk member c.args.made.now c.args.key vs c.args.parts.now.left c.args.parts.now.right) c.in-Some.ensures.cases.0 c.requires in
+    walking_none member c.args.operation c.args.key c.in-Some.var.now c.in-Some.later.now c.args.parts.now.left c.args.parts.now.right c.args.made.now can
 
 pub fixed-left-requires : goal.fixed-left-requires
 fixed-left-requires g t c = c.requires.left_room
@@ -20,8 +20,8 @@ pub walk-requires : goal.walk-requires
 walk-requires g t c κs within =
     let member = g.S.TickSet.member in
     let made = c.args.made.now in
-    let left = c.args.left.now in
-    let right = c.args.right.now in
+    let left = c.args.parts.now.left in
+    let right = c.args.parts.now.right in
     let can = subst (λ (vs : List ℕ). CanWalk member made c.args.key vs left right) c.in-Some.ensures.cases.0 c.requires in
     let domain = c.of.ensures.value ∙ ap (λ (d : List (List ℕ)). ids_of_variable d c.in-Some.var.now) c.domains-domains.ensures in
     let next = c.in-Some-next_visited.ensures made.domains made.lo made.hi can.left can.right in
@@ -40,8 +40,8 @@ pub objects-preserved : goal.objects-preserved
 objects-preserved g t c =
     let member = g.S.TickSet.member in
     let made = c.args.made.now in
-    let left = c.args.left.now in
-    let right = c.args.right.now in
+    let left = c.args.parts.now.left in
+    let right = c.args.parts.now.right in
     let can = subst (λ (vs : List ℕ). CanWalk member made c.args.key vs left right) c.in-Some.ensures.cases.0 c.requires in
     let domain = c.of.ensures.value ∙ ap (λ (d : List (List ℕ)). ids_of_variable d c.in-Some.var.now) c.domains-domains.ensures in
     let next = c.in-Some-next_visited.ensures made.domains made.lo made.hi can.left can.right in
@@ -54,8 +54,8 @@ pub returns : goal.returns
 returns g t c =
     let member = g.S.TickSet.member in
     let made = c.args.made.now in
-    let left = c.args.left.now in
-    let right = c.args.right.now in
+    let left = c.args.parts.now.left in
+    let right = c.args.parts.now.right in
     let can = subst (λ (vs : List ℕ). CanWalk member made c.args.key vs left right) c.in-Some.ensures.cases.0 c.requires in
     let domain = c.of.ensures.value ∙ ap (λ (d : List (List ℕ)). ids_of_variable d c.in-Some.var.now) c.domains-domains.ensures in
     rw c.in-Some.ensures.cases.0 (walking_all member c.args.operation c.args.key c.in-Some.var.now c.in-Some.later.now left right made can c.of.result.now domain c.objects.made c.objects.from c.objects.invariant
@@ -65,8 +65,8 @@ pub objects-smaller : goal.objects-smaller
 objects-smaller g t c =
     let member = g.S.TickSet.member in
     let made = c.args.made.now in
-    let left = c.args.left.now in
-    let right = c.args.right.now in
+    let left = c.args.parts.now.left in
+    let right = c.args.parts.now.right in
     let can = subst (λ (vs : List ℕ). CanWalk member made c.args.key vs left right) c.in-Some.ensures.cases.0 c.requires in
     let next = c.in-Some-next_visited.ensures made.domains made.lo made.hi can.left can.right in
     let fits = c.from-from.ensures in
