@@ -30,6 +30,20 @@ pub struct Scene<'a> {
     pub w: Window,
 }
 
+// An object, and others beside it.
+#[derive(Clone, Copy)]
+struct Beside<'a> {
+    one: &'a Mover,
+    others: &'a [Mover],
+}
+
+// Two objects.
+#[derive(Clone, Copy)]
+struct Couple<'a> {
+    one: &'a Mover,
+    other: &'a Mover,
+}
+
 /// The rows of a distance over the first two variables: for each two objects of their domains the ticks of the window at
 /// which it compares so. It fails only where memory is out.
 ///
@@ -54,7 +68,8 @@ pub fn rows_of_pairs<'d, L: Ledger, M: Ledger>(
     let mut made = Relation::empty(alloc, &[0, 1], d, scene.w);
     'ids: for id in d.of(0) {
         let one = mover_of(*id, store, scene.w, reads);
-        put_near(alloc, scene, &one, others, &mut made, reads, probes)?;
+        let beside = Beside { one: &one, others };
+        put_near(alloc, scene, &beside, &mut made, reads, probes)?;
     }
     Ok(made)
 }
@@ -63,24 +78,27 @@ pub fn rows_of_pairs<'d, L: Ledger, M: Ledger>(
 fn put_near<'d, L: Ledger, M: Ledger>(
     alloc: Global,
     scene: &Scene<'_>,
-    one: &Mover,
-    movers: &[Mover],
+    beside: &Beside<'_>,
     made: &mut Relation<'d, IntervalSet>,
     reads: &mut Steps<L>,
     probes: &mut Steps<M>,
 ) -> Result<(), AllocError>
     requires can { CanAskDistance scene.now.distance scene.now.w.lo scene.now.w.hi }
-    requires one { IsMover scene.now.world.store.now scene.now.w.lo scene.now.w.hi one.now }
-    requires movers { All (IsMover scene.now.world.store.now scene.now.w.lo scene.now.w.hi) movers.now }
+    requires one { IsMover scene.now.world.store.now scene.now.w.lo scene.now.w.hi beside.now.one.now }
+    requires movers { All (IsMover scene.now.world.store.now scene.now.w.lo scene.now.w.hi) beside.now.others.now }
     requires head { IsSameHead (table (0 ∷ 1 ∷ []) made.old.domains scene.now.w.lo scene.now.w.hi []) made.old }
-    requires inside { list_all (λ key. key_in made.old.domains (0 ∷ 1 ∷ []) (one.now.id ∷ key)) (keys_of movers.now) ≡ true }
-    requires ascend { AreAscendingKeys (keys_of movers.now) }
-    requires above { list_all (λ r. key_below r.key (one.now.id ∷ [])) made.old.rows ≡ true }
-    ensures rows { OnOk result (IsFilled spans_have (holds_in scene.now) (keys_behind one.now.id (keys_of movers.now)) made.old made.new) }
-    ensures reads { StepsAtMost reads.old reads.new (length movers.now * 2) }
+    requires inside { list_all (λ key. key_in made.old.domains (0 ∷ 1 ∷ []) (beside.now.one.now.id ∷ key)) (keys_of beside.now.others.now) ≡ true }
+    requires ascend { AreAscendingKeys (keys_of beside.now.others.now) }
+    requires above { list_all (λ r. key_below r.key (beside.now.one.now.id ∷ [])) made.old.rows ≡ true }
+    ensures rows { OnOk result (IsFilled spans_have (holds_in scene.now) (keys_behind beside.now.one.now.id (keys_of beside.now.others.now)) made.old made.new) }
+    ensures reads { StepsAtMost reads.old reads.new (length beside.now.others.now * 2) }
 {
-    'others: for other in movers {
-        put_unless_apart(alloc, scene, one, other, made, reads, probes)?;
+    'others: for other in beside.others {
+        let couple = Couple {
+            one: beside.one,
+            other,
+        };
+        put_unless_apart(alloc, scene, &couple, made, reads, probes)?;
     }
     Ok(())
 }
@@ -90,47 +108,45 @@ fn put_near<'d, L: Ledger, M: Ledger>(
 fn put_unless_apart<'d, L: Ledger, M: Ledger>(
     alloc: Global,
     scene: &Scene<'_>,
-    one: &Mover,
-    other: &Mover,
+    couple: &Couple<'_>,
     made: &mut Relation<'d, IntervalSet>,
     reads: &mut Steps<L>,
     probes: &mut Steps<M>,
 ) -> Result<(), AllocError>
     requires can { CanAskDistance scene.now.distance scene.now.w.lo scene.now.w.hi }
-    requires one { IsMover scene.now.world.store.now scene.now.w.lo scene.now.w.hi one.now }
-    requires other { IsMover scene.now.world.store.now scene.now.w.lo scene.now.w.hi other.now }
+    requires one { IsMover scene.now.world.store.now scene.now.w.lo scene.now.w.hi couple.now.one.now }
+    requires other { IsMover scene.now.world.store.now scene.now.w.lo scene.now.w.hi couple.now.other.now }
     requires head { IsSameHead (table (0 ∷ 1 ∷ []) made.old.domains scene.now.w.lo scene.now.w.hi []) made.old }
-    requires inside { key_in made.old.domains (0 ∷ 1 ∷ []) (one.now.id ∷ other.now.id ∷ []) ≡ true }
-    requires above { list_all (λ r. key_below r.key (one.now.id ∷ other.now.id ∷ [])) made.old.rows ≡ true }
-    ensures rows { OnOk result (IsFilled spans_have (holds_in scene.now) ((one.now.id ∷ other.now.id ∷ []) ∷ []) made.old made.new) }
+    requires inside { key_in made.old.domains (0 ∷ 1 ∷ []) (couple.now.one.now.id ∷ couple.now.other.now.id ∷ []) ≡ true }
+    requires above { list_all (λ r. key_below r.key (couple.now.one.now.id ∷ couple.now.other.now.id ∷ [])) made.old.rows ≡ true }
+    ensures rows { OnOk result (IsFilled spans_have (holds_in scene.now) ((couple.now.one.now.id ∷ couple.now.other.now.id ∷ []) ∷ []) made.old made.new) }
     ensures reads { StepsAtMost reads.old reads.new 2 }
 {
-    if are_apart(one, other, scene.distance.most) {
+    if are_apart(couple.one, couple.other, scene.distance.most) {
         return Ok(());
     }
-    put_pair(alloc, scene, one.id, other.id, made, reads, probes)
+    put_pair(alloc, scene, couple, made, reads, probes)
 }
 
 // Adds the row of two objects.
 fn put_pair<'d, L: Ledger, M: Ledger>(
     alloc: Global,
     scene: &Scene<'_>,
-    one: u32,
-    other: u32,
+    couple: &Couple<'_>,
     made: &mut Relation<'d, IntervalSet>,
     reads: &mut Steps<L>,
     probes: &mut Steps<M>,
 ) -> Result<(), AllocError>
     requires can { CanAskDistance scene.now.distance scene.now.w.lo scene.now.w.hi }
-    requires one { one < length scene.now.world.store.now.objects }
-    requires other { other < length scene.now.world.store.now.objects }
+    requires one { couple.now.one.now.id < length scene.now.world.store.now.objects }
+    requires other { couple.now.other.now.id < length scene.now.world.store.now.objects }
     requires head { IsSameHead (table (0 ∷ 1 ∷ []) made.old.domains scene.now.w.lo scene.now.w.hi []) made.old }
-    requires inside { key_in made.old.domains (0 ∷ 1 ∷ []) (one ∷ other ∷ []) ≡ true }
-    requires above { list_all (λ r. key_below r.key (one ∷ other ∷ [])) made.old.rows ≡ true }
-    ensures rows { OnOk result (IsFilled spans_have (holds_in scene.now) ((one ∷ other ∷ []) ∷ []) made.old made.new) }
+    requires inside { key_in made.old.domains (0 ∷ 1 ∷ []) (couple.now.one.now.id ∷ couple.now.other.now.id ∷ []) ≡ true }
+    requires above { list_all (λ r. key_below r.key (couple.now.one.now.id ∷ couple.now.other.now.id ∷ [])) made.old.rows ≡ true }
+    ensures rows { OnOk result (IsFilled spans_have (holds_in scene.now) ((couple.now.one.now.id ∷ couple.now.other.now.id ∷ []) ∷ []) made.old made.new) }
     ensures reads { StepsAtMost reads.old reads.new 2 }
 {
-    let key = key_of(one, other);
+    let key = key_of(couple.one.id, couple.other.id);
     let world = &scene.world;
     let env = Env::new();
     let ticks = atom_ticks(

@@ -18,7 +18,7 @@ pub atom_ticks-requires-clause-bound : goal.atom_ticks-requires-clause-bound
 atom_ticks-requires-clause-bound g c = λ v has.
     let s = c.args.scene.now.world.store.now in
     subst (λ (k : List ℕ). HasObject k s v) (sym c.key_of-key.ensures)
-    (objects_there c.args.scene.now.distance c.requires.can.distance s c.args.one c.args.other c.requires.one c.requires.other v has)
+    (objects_there c.args.scene.now.distance c.requires.can.distance s c.args.couple.now.one.now.id c.args.couple.now.other.now.id c.requires.one c.requires.other v has)
 
 pub put-requires-clause-inside : goal.put-requires-clause-inside
 put-requires-clause-inside g c =
