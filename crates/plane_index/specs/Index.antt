@@ -6,7 +6,7 @@ use Rattle.object_store.specs.Contents.{Contents, catalog_of}
 use Rattle.plane.specs.Boxes.{Grid, Strips, strips_in}
 use Rattle.plane.specs.declared.limits.TheConstants.{SLICES}
 use Rattle.plane_index.specs.Held.{kept_strips, no_strips}
-use Rattle.plane_index.specs.States.{strips_at}
+use Rattle.plane_index.specs.States.{States, strips_at}
 use Rattle.plane_index.specs.Told.{recorded_by}
 use Rattle.plane_index.specs.declared.state.State.{State}
 
@@ -73,3 +73,11 @@ pub record IsPastFresh (states : List Bool) (first until place : ℕ) : Type 0 w
   pub from : first ≤ place
   pub end : place ≤ until
   pub fresh : (k : ℕ) → first ≤ k → k < place → fresh_at states k ≡ true
+
+-- The object of a place has been looked at, unless that was fresh: its strips are those of its last state. All else stays.
+pub record IsFreshenedAt (s : Contents) (id place : ℕ) (fresh : List Bool) (old new : States) : Type 0 where
+  pub grid : new.grid ≡ old.grid
+  pub others : (k slice : ℕ) → (k == place) ≡ false → strips_at new.grid new.states k slice ≡ strips_at old.grid old.states k slice
+  pub kept : fresh_at fresh place ≡ true → (slice : ℕ) → strips_at new.grid new.states place slice ≡ strips_at old.grid old.states place slice
+  pub right : fresh_at fresh place ≡ false → (slice : ℕ)
+      → strips_at new.grid new.states place slice ≡ kept_strips (strips_in (recorded_by s) old.grid id slice)

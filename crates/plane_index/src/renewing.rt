@@ -4,7 +4,7 @@ ghost use Rattle.tick_set.specs.Ticks.{between};
 ghost use Rattle.plane.specs.Boxes.{strips_in};
 ghost use Rattle.plane.specs.declared.limits.TheConstants.{SLICES};
 ghost use Rattle.plane_index.specs.Held.{kept_strips};
-ghost use Rattle.plane_index.specs.Index.{IsPastFresh, fresh_at};
+ghost use Rattle.plane_index.specs.Index.{IsFreshenedAt, IsPastFresh, fresh_at};
 ghost use Rattle.plane_index.specs.States.{strips_at};
 ghost use Rattle.plane_index.specs.Told.{recorded_by};
 ghost use Rattle.object_store.specs.Contents.{IsObjectId};
@@ -58,12 +58,8 @@ fn freshen_at<L: Ledger>(
     requires seen { place < length fresh.old }
     requires room { length fresh.old ≤ length states.old.states }
     ensures lengths { (length fresh.new ≡ length fresh.old) × (length states.new.states ≡ length states.old.states) }
-    ensures grid { states.new.grid ≡ states.old.grid }
     ensures fresh { (k : ℕ) → fresh_at fresh.new k ≡ (fresh_at fresh.old k || (k == place)) }
-    ensures others { (k s : ℕ) → (k == place) ≡ false → strips_at states.new.grid states.new.states k s ≡ strips_at states.old.grid states.old.states k s }
-    ensures kept { fresh_at fresh.old place ≡ true → (s : ℕ) → strips_at states.new.grid states.new.states place s ≡ strips_at states.old.grid states.old.states place s }
-    ensures right { fresh_at fresh.old place ≡ false → (s : ℕ)
-        → strips_at states.new.grid states.new.states place s ≡ kept_strips (strips_in (recorded_by store.now) states.old.grid id s) }
+    ensures strips { IsFreshenedAt store.now id place fresh.old states.old states.new }
     ensures step { reads.new ≡ reads.old + (if fresh_at fresh.old place then 0 else 1) }
 {
     if fresh[place] {

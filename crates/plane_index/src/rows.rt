@@ -13,7 +13,7 @@ ghost use Rattle.plane_index.specs.Told.{recorded_by};
 ghost use Rattle.steps.specs.Counting.{StepsAtMost};
 
 use crate::index::PlaneIndex;
-use crate::runs::ticks_between;
+use crate::runs::{Bounds, ticks_between};
 use crate::ticks::Ticks;
 use fixed_point::Fix;
 use object_store::{ObjectId, Store};
@@ -57,16 +57,12 @@ impl PlaneIndex {
         self.renew(store, reads)?;
         self.prepare(alloc, w)?;
         let found = self.candidates(alloc, lo, hi, w)?;
-        rows_of(
-            alloc,
-            &found,
-            self.grid().attribute(),
+        let bounds = Bounds {
+            attribute: self.grid().attribute(),
             lo,
             hi,
-            store,
-            w,
-            reads,
-        )
+        };
+        rows_of(alloc, &found, &bounds, store, w, reads)
     }
 }
 
@@ -74,21 +70,19 @@ impl PlaneIndex {
 fn rows_of<L: Ledger>(
     alloc: Global,
     ids: &[ObjectId],
-    attribute: usize,
-    lo: Fix,
-    hi: Fix,
+    bounds: &Bounds,
     store: &Store,
     w: Window,
     reads: &mut Steps<L>,
 ) -> Result<Vec<RangeRow>, AllocError>
     requires { All (λ id. id < length store.now.objects) ids.now }
-    ensures rows { IfOk result (λ rows. told_range_rows rows.items ≡ rows_among (history_of store.now) attribute lo hi w.lo w.hi ids.now) }
+    ensures rows { IfOk result (λ rows. told_range_rows rows.items ≡ rows_among (history_of store.now) bounds.now.attribute bounds.now.lo bounds.now.hi w.lo w.hi ids.now) }
     ensures reads { StepsAtMost reads.old reads.new (length ids.now) }
 {
     let mut rows = Vec::with_capacity(alloc, ids.len())?;
     'objects: for id in ids {
         let timeline = store.timeline(*id, reads);
-        let found = ticks_between(alloc, timeline, attribute, lo, hi, w)?;
+        let found = ticks_between(alloc, timeline, bounds, w)?;
         add_row(&mut rows, *id, found)?;
     }
     Ok(rows)

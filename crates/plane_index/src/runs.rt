@@ -19,24 +19,30 @@ use motion::{Cell, Epoch, Timeline, Vector};
 use std::alloc::{AllocError, Global};
 use tick_set::{Runs, Span, Window};
 
-/// The ticks of the window at which the attribute of an object with this timeline lies between two bounds.
+/// An attribute, and the bounds between which its value is to lie.
+#[derive(Clone, Copy)]
+pub struct Bounds {
+    pub attribute: usize,
+    pub lo: Fix,
+    pub hi: Fix,
+}
+
+/// The ticks of the window at which the attribute of an object with this timeline lies between the bounds.
 pub fn ticks_between(
     alloc: Global,
     timeline: &Timeline,
-    attribute: usize,
-    lo: Fix,
-    hi: Fix,
+    bounds: &Bounds,
     w: Window,
 ) -> Result<Option<Ticks>, AllocError>
     ensures runs { IfOk result (λ found. IsRuns (λ t. within w.lo w.hi t
-        && lies_between timeline.now attribute lo hi t) (runs_found found)) }
+        && lies_between timeline.now bounds.now.attribute bounds.now.lo bounds.now.hi t) (runs_found found)) }
     ensures some { IfOk result (λ found. IfSome found HasRun) }
 {
     // One line needs no look at the epochs.
-    match line_from(timeline, attribute, w.lo) {
-        Some(line) => Ok(single(line.between(lo, hi, w))),
+    match line_from(timeline, bounds.attribute, w.lo) {
+        Some(line) => Ok(single(line.between(bounds.lo, bounds.hi, w))),
         None => {
-            let runs = runs_by_parts(alloc, timeline, attribute, lo, hi, w)?;
+            let runs = runs_by_parts(alloc, timeline, bounds, w)?;
             Ok(Ticks::of(runs))
         }
     }
@@ -74,13 +80,11 @@ fn line_from(timeline: &Timeline, attribute: usize, at: u32) -> Option<Line>
 fn runs_by_parts(
     alloc: Global,
     timeline: &Timeline,
-    attribute: usize,
-    lo: Fix,
-    hi: Fix,
+    bounds: &Bounds,
     w: Window,
 ) -> Result<Vec<Span>, AllocError>
     ensures { IfOk result (λ runs. IsRuns (λ t. within w.lo w.hi t
-        && lies_between timeline.now attribute lo hi t) runs.items) }
+        && lies_between timeline.now bounds.now.attribute bounds.now.lo bounds.now.hi t) runs.items) }
 {
     let timelines = [timeline];
     let mut runs = Runs::new(alloc);
@@ -88,32 +92,32 @@ fn runs_by_parts(
     'parts: while at <= w.hi {
         let common = common_from(&timelines, at, w.hi);
         let next = common.span.hi + 1;
-        runs.append(part_between(&common, attribute, lo, hi))?;
+        runs.append(part_between(&common, bounds))?;
         at = next;
     }
     Ok(runs.finish())
 }
 
 // Those of a common part of that timeline alone.
-fn part_between(common: &Common, attribute: usize, lo: Fix, hi: Fix) -> Option<Span>
+fn part_between(common: &Common, bounds: &Bounds) -> Option<Span>
     requires { (k : ℕ) → IfSome (slice_index_or common.now.epochs k None)
         (λ epoch. AreSteadyCells epoch.now common.now.span.lo common.now.span.hi) }
     ensures { IsRuns (λ t. within common.now.span.lo common.now.span.hi t
-        && lies_in (option_copied (slice_index_or common.now.epochs 0 None)) attribute lo hi t) (option_to_list result) }
+        && lies_in (option_copied (slice_index_or common.now.epochs 0 None)) bounds.now.attribute bounds.now.lo bounds.now.hi t) (option_to_list result) }
 {
     match common.epoch(0) {
-        Some(epoch) => span_between(epoch, attribute, lo, hi, common.span.window()),
+        Some(epoch) => span_between(epoch, bounds, common.span.window()),
         None => None,
     }
 }
 
 // The ticks of the window at which the attribute of an epoch that is in force lies between two bounds. It moves along one
 // line.
-fn span_between(epoch: &Epoch, attribute: usize, lo: Fix, hi: Fix, w: Window) -> Option<Span>
+fn span_between(epoch: &Epoch, bounds: &Bounds, w: Window) -> Option<Span>
     requires { AreSteadyCells epoch.now w.lo w.hi }
-    ensures { IsRuns (λ t. within w.lo w.hi t && lies_in (Some epoch.now) attribute lo hi t) (option_to_list result) }
+    ensures { IsRuns (λ t. within w.lo w.hi t && lies_in (Some epoch.now) bounds.now.attribute bounds.now.lo bounds.now.hi t) (option_to_list result) }
 {
-    cell_between(epoch.cell(attribute)?, lo, hi, w)
+    cell_between(epoch.cell(bounds.attribute)?, bounds.lo, bounds.hi, w)
 }
 
 // The same of a cell.

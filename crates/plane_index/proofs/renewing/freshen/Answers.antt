@@ -45,15 +45,15 @@ places-preserved g c =
       up_to = skip.end;
       seen = f.lengths.0 ∙ now.seen;
       room = f.lengths.1 ∙ now.room;
-      grid = f.grid ∙ now.grid;
+      grid = f.strips.grid ∙ now.grid;
       fresh = λ k. still_fresh (fresh_at before k) (fresh_at c.freshen_at.new.fresh k) k (place + 1) next.result (seen k) skip.from (skip.fresh k);
       kept = λ k s is.
           elim (cases_Bool (k == place)) [
             | inl same ↦
                 let e = same_from_equal k place same in
                 let fresh_here : fresh_at c.places.fresh place ≡ true = here ∙ ap (fresh_at before) (sym e) ∙ is in
-                ap (λ n. strips_at new.grid new.states n s) e ∙ f.kept fresh_here s ∙ ap (λ n. strips_at old.grid old.states n s) (sym e) ∙ now.kept k s is
-            | inr apart ↦ f.others k s apart ∙ now.kept k s is
+                ap (λ n. strips_at new.grid new.states n s) e ∙ f.strips.kept fresh_here s ∙ ap (λ n. strips_at old.grid old.states n s) (sym e) ∙ now.kept k s is
+            | inr apart ↦ f.strips.others k s apart ∙ now.kept k s is
           ];
       right = λ k s below is under.
           ⊎_elim
@@ -62,9 +62,9 @@ places-preserved g c =
             | inl same ↦
                 let e = same_from_equal k place same in
                 let stale_here : fresh_at c.places.fresh place ≡ false = here ∙ ap (fresh_at before) (sym e) ∙ is in
-                ap (λ n. strips_at new.grid new.states n s) e ∙ f.right stale_here s
+                ap (λ n. strips_at new.grid new.states n s) e ∙ f.strips.right stale_here s
                 ∙ (λ i. kept_strips (strips_in (recorded_by c.args.store.now) (now.grid i) (slice_index c.args.ids.now (sym e i)) s))
-            | inr apart ↦ f.others k s apart ∙ now.right k s (apart_of k place apart l) is under
+            | inr apart ↦ f.strips.others k s apart ∙ now.right k s (apart_of k place apart l) is under
           ])
           (λ (l : place + 1 ≤ k).
           absurd (false≢true (sym is ∙ was_fresh (fresh_at before k) (fresh_at c.freshen_at.new.fresh k) k (place + 1) (seen k) l (skip.fresh k l below))))

@@ -16,7 +16,7 @@ objects-preserved g c =
     let id : ℕ = get_or ids i 0 in
     let now = c.objects.invariant in
     let row =
-    row_of_runs h c.timeline-timeline.result.now c.args.attribute c.args.lo c.args.hi c.args.w.lo c.args.w.hi id (runs_found c.in_ok-found.found)
+    row_of_runs h c.timeline-timeline.result.now c.args.bounds.now.attribute c.args.bounds.now.lo c.args.bounds.now.hi c.args.w.lo c.args.w.hi id (runs_found c.in_ok-found.found)
     c.timeline-timeline.ensures.state c.in_ok-found.ensures.runs in
     let step = c.timeline-timeline.ensures.step in
     let least = now.least in
@@ -25,7 +25,7 @@ objects-preserved g c =
       rows =
           c.in_ok-add_row.ensures
           ∙ (λ j. now.rows j ++ if_some (row j))
-          ∙ sym (rows_more h c.args.attribute c.args.lo c.args.hi c.args.w.lo c.args.w.hi i id ids below (get_or_default ids i 0 id below));
+          ∙ sym (rows_more h c.args.bounds.now.attribute c.args.bounds.now.lo c.args.bounds.now.hi c.args.w.lo c.args.w.hi i id ids below (get_or_default ids i 0 id below));
       least = omega (arith, step, least);
       most = omega (arith, step, most);
     }

@@ -10,7 +10,7 @@ pub parts-init : goal.parts-init
 parts-init c = record {
   from = omega arith;
   until = omega (arith, c.args.w.ordered);
-  ticks = λ t. ap (λ runs. spans_have runs t) c.new-runs.ensures ∙ none_yet (lies_between c.args.timeline.now c.args.attribute c.args.lo c.args.hi) c.args.w.lo t;
+  ticks = λ t. ap (λ runs. spans_have runs t) c.new-runs.ensures ∙ none_yet (lies_between c.args.timeline.now c.args.bounds.now.attribute c.args.bounds.now.lo c.args.bounds.now.hi) c.args.w.lo t;
 }
 
 pub append-requires : goal.append-requires
@@ -19,7 +19,7 @@ append-requires c =
     let epoch = option_copied (slice_index_or common.epochs 0 None) in
     record {
       past =
-          past (lies_between c.args.timeline.now c.args.attribute c.args.lo c.args.hi) (lies_in epoch c.args.attribute c.args.lo c.args.hi) c.args.w.lo c.parts.at
+          past (lies_between c.args.timeline.now c.args.bounds.now.attribute c.args.bounds.now.lo c.args.bounds.now.hi) (lies_in epoch c.args.bounds.now.attribute c.args.bounds.now.lo c.args.bounds.now.hi) c.args.w.lo c.parts.at
           common.span.lo common.span.hi c.parts.runs c.part_between.result c.common_from-common.ensures.part.begins c.parts.invariant.ticks c.part_between.ensures.ticks;
     }
 
@@ -32,9 +32,9 @@ parts-preserved c =
       from = omega (arith, begins, common.span.ordered, c.parts.invariant.from);
       until = omega (arith, c.common_from-common.ensures.part.within);
       ticks =
-          more (lies_between c.args.timeline.now c.args.attribute c.args.lo c.args.hi) (lies_in epoch c.args.attribute c.args.lo c.args.hi) c.args.w.lo c.parts.at
+          more (lies_between c.args.timeline.now c.args.bounds.now.attribute c.args.bounds.now.lo c.args.bounds.now.hi) (lies_in epoch c.args.bounds.now.attribute c.args.bounds.now.lo c.args.bounds.now.hi) c.args.w.lo c.parts.at
           common.span.lo common.span.hi c.parts.runs (option_to_list c.part_between.result) c.append.new.self begins c.parts.invariant.from
           (omega (arith, begins, common.span.ordered))
-          (λ t after up_to. ap (λ e. lies_in e c.args.attribute c.args.lo c.args.hi t) (c.common_from-common.ensures.epochs 0 t after up_to))
+          (λ t after up_to. ap (λ e. lies_in e c.args.bounds.now.attribute c.args.bounds.now.lo c.args.bounds.now.hi t) (c.common_from-common.ensures.epochs 0 t after up_to))
           c.parts.invariant.ticks c.part_between.ensures.ticks c.in_ok-append.ensures.ticks;
     }

@@ -7,7 +7,7 @@ abbrev pub invariant-parts : goal.invariant-parts
 invariant-parts l = record {
   from : l.w.lo ≤ l.at;
   until : l.at ≤ l.w.hi + 1;
-  ticks : AreRunsTo (lies_between l.fn.timeline l.fn.attribute l.fn.lo l.fn.hi) l.w.lo l.at l.runs;
+  ticks : AreRunsTo (lies_between l.fn.timeline l.fn.bounds.attribute l.fn.bounds.lo l.fn.bounds.hi) l.w.lo l.at l.runs;
 }
 
 abbrev pub decreases-parts : goal.decreases-parts
