@@ -14,36 +14,42 @@ use places::Places;
 use std::alloc::{AllocError, Global};
 use tick_set::Window;
 
-/// The objects of a class, whose ids are these, whose patches meet an area, ascending. None where no horizon has the window.
+/// The objects of a store, and the ids of those of a class.
+#[derive(Clone, Copy)]
+pub struct Among<'a> {
+    pub objects: &'a Objects,
+    pub class: u32,
+    pub own: &'a [u32],
+}
+
+/// The objects of a class whose patches meet an area, ascending. None where no horizon has the window.
 pub fn candidates(
     alloc: Global,
-    objects: &Objects,
-    own: &[u32],
+    among: &Among,
     places: &Places,
-    class: u32,
     area: &Area,
     w: Window,
 ) -> Result<Option<Vec<u32>>, AllocError>
-    requires own { own.now ≡ ids_in (objects_of objects.now.entries) class }
-    requires placed { ArePlaced places.now (objects_of objects.now.entries) }
+    requires own { among.now.own.now ≡ ids_in (objects_of among.now.objects.now.entries) among.now.class }
+    requires placed { ArePlaced places.now (objects_of among.now.objects.now.entries) }
     ensures { IfOk result (λ found. IfSome found (λ ids.
-        IsSearched (IsNowhere (objects_of objects.now.entries) area.now w.lo w.hi) (ids_in (objects_of objects.now.entries) class) ids.items [])) }
+        IsSearched (IsNowhere (objects_of among.now.objects.now.entries) area.now w.lo w.hi) (ids_in (objects_of among.now.objects.now.entries) among.now.class) ids.items [])) }
 {
     let patch = area.patch();
     match places.near(alloc, w.lo, w.hi, &patch)? {
-        Some(numbers) => Ok(Some(of_class(numbers, objects, own, class))),
+        Some(numbers) => Ok(Some(of_class(numbers, among))),
         None => Ok(None),
     }
 }
 
-/// Those of these numbers that are of objects of a class, whose ids are `own`.
-fn of_class(numbers: Vec<u32>, objects: &Objects, own: &[u32], class: u32) -> Vec<u32>
-    requires { own.now ≡ ids_in (objects_of objects.now.entries) class }
-    ensures { result.items ≡ filter (is_in_class (objects_of objects.now.entries) class) numbers.items }
+/// Those of these numbers that are of objects of a class.
+fn of_class(numbers: Vec<u32>, among: &Among) -> Vec<u32>
+    requires { among.now.own.now ≡ ids_in (objects_of among.now.objects.now.entries) among.now.class }
+    ensures { result.items ≡ filter (is_in_class (objects_of among.now.objects.now.entries) among.now.class) numbers.items }
 {
-    let run = run_of(own);
+    let run = run_of(among.own);
     let mut ids = numbers;
-    ids.retain(|id| is_in_either(run, objects, *id, class));
+    ids.retain(|id| is_in_either(run, among.objects, *id, among.class));
     ids
 }
 

@@ -15,7 +15,7 @@ ghost use Rattle.object_store.specs.TakingBack.{undone, IsRevertible};
 
 use crate::fault::StoreFault;
 use crate::objects::{Done, Objects, Undo};
-use crate::tables::Tables;
+use crate::tables::{Insertion, Tables};
 use fixed_point::Word;
 use motion::{NamedSet, Place};
 use places::Places;
@@ -25,25 +25,21 @@ use std::alloc::AllocError;
 pub fn insert_placed(
     tables: &mut Tables,
     places: &mut Places,
-    now: u32,
-    class: &Word,
-    name: &Word,
-    place: &Place,
-    sets: &[NamedSet],
+    insertion: &Insertion,
 ) -> Result<Done, StoreFault>
     requires kept { IsKept (members_of tables.old) (contents_of tables.old) }
     requires placed { ArePlaced places.old (contents_of tables.old).objects }
-    requires now { CanWriteAt (contents_of tables.old) now }
-    requires given { AreGiven place.now sets.now }
-    ensures ok { IfOk result (WritesNamed name.now (contents_of tables.old)
-        (after_insert (contents_of tables.old) now class.now name.now place.now sets.now) (members_of tables.new) (contents_of tables.new)) }
+    requires now { CanWriteAt (contents_of tables.old) insertion.now.tick }
+    requires given { AreGiven insertion.now.place.now insertion.now.sets.now }
+    ensures ok { IfOk result (WritesNamed insertion.now.name.now (contents_of tables.old)
+        (after_insert (contents_of tables.old) insertion.now.tick insertion.now.class.now insertion.now.name.now insertion.now.place.now insertion.now.sets.now) (members_of tables.new) (contents_of tables.new)) }
     ensures judged { IsJudged (insert_fault (catalog_of (contents_of tables.old))
-        (is_some (state_of (contents_of tables.old) name.now now)) class.now name.now place.now sets.now) result }
+        (is_some (state_of (contents_of tables.old) insertion.now.name.now insertion.now.tick)) insertion.now.class.now insertion.now.name.now insertion.now.place.now insertion.now.sets.now) result }
     ensures err { OnErr result (contents_of tables.new ≡ contents_of tables.old) }
     ensures kept { IsKept (members_of tables.new) (contents_of tables.new) }
     ensures placed { ArePlaced places.new (contents_of tables.new).objects }
 {
-    let done = tables.insert(now, class, name, place, sets)?;
+    let done = tables.insert(insertion)?;
     placed(tables, places, done)
 }
 

@@ -18,7 +18,7 @@ ghost use Rattle.object_store.specs.StandsFor.{GrowsBy};
 ghost use Rattle.object_store.specs.TakingBack.{undone, without_last_class, HasEmptyLastClass, IsRevertible, Undoes};
 
 use crate::areas::Area;
-use crate::candidates::candidates;
+use crate::candidates::{Among, candidates};
 use crate::class::AttrDef;
 use crate::fault::StoreFault;
 use crate::near::{may_come, those_near, whereabouts};
@@ -26,7 +26,7 @@ use crate::objects::{Done, ObjectId, Undo, index_of};
 use crate::placing::{insert_placed, remove_placed, revert_placed, update_placed};
 use crate::schema::{ClassId, Schema};
 use crate::standing::stand;
-use crate::tables::Tables;
+use crate::tables::{Insertion, Tables};
 use fixed_point::Word;
 use indexmap::IndexMap;
 use motion::{NamedSet, Place, Timeline};
@@ -147,15 +147,14 @@ impl Store {
             fault ≡ unwrap_or (insert_fault (catalog_of self.old) (is_some (state_of self.old name.now now)) class.now name.now place.now sets.now) NoMemory) }
         ensures err { OnErr result (self.new ≡ self.old) }
     {
-        insert_placed(
-            &mut self.tables,
-            &mut self.places,
-            now,
+        let insertion = Insertion {
+            tick: now,
             class,
             name,
             place,
             sets,
-        )
+        };
+        insert_placed(&mut self.tables, &mut self.places, &insertion)
     }
 
     /// Updates an object at tick `now`, which isn't before the last write's.
@@ -299,7 +298,12 @@ impl Store {
         }
         let objects = &self.tables.objects;
         let own = self.class_names(class);
-        let placed = candidates(alloc, objects, own, &self.places, class, area, w)?;
+        let among = Among {
+            objects,
+            class,
+            own,
+        };
+        let placed = candidates(alloc, &among, &self.places, area, w)?;
         if let Some(ids) = placed {
             return Ok(Some(ids));
         }

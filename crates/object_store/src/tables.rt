@@ -26,6 +26,16 @@ use fixed_point::Word;
 use motion::{Cell, NamedSet, Place, Timeline};
 use std::alloc::{AllocError, Global};
 
+/// An object that a command inserts into a class at a tick, and what the command gives it.
+#[derive(Clone, Copy)]
+pub struct Insertion<'a> {
+    pub tick: u32,
+    pub class: &'a Word,
+    pub name: &'a Word,
+    pub place: &'a Place,
+    pub sets: &'a [NamedSet],
+}
+
 #[derive(Drop)]
 pub struct Tables {
     pub alloc: Global,
@@ -101,61 +111,50 @@ impl Tables {
     }
 
     /// Inserts an object.
-    pub fn insert(
-        &mut self,
-        now: u32,
-        class: &Word,
-        name: &Word,
-        place: &Place,
-        sets: &[NamedSet],
-    ) -> Result<Done, StoreFault>
+    pub fn insert(&mut self, insertion: &Insertion) -> Result<Done, StoreFault>
         requires kept { IsKept (members_of self.old) (contents_of self.old) }
-        requires now { CanWriteAt (contents_of self.old) now }
-        requires given { AreGiven place.now sets.now }
-        ensures ok { IfOk result (WritesNamed name.now (contents_of self.old)
-            (after_insert (contents_of self.old) now class.now name.now place.now sets.now) (members_of self.new) (contents_of self.new)) }
+        requires now { CanWriteAt (contents_of self.old) insertion.now.tick }
+        requires given { AreGiven insertion.now.place.now insertion.now.sets.now }
+        ensures ok { IfOk result (WritesNamed insertion.now.name.now (contents_of self.old)
+            (after_insert (contents_of self.old) insertion.now.tick insertion.now.class.now insertion.now.name.now insertion.now.place.now insertion.now.sets.now) (members_of self.new) (contents_of self.new)) }
         ensures judged { IsJudged (insert_fault (catalog_of (contents_of self.old))
-            (is_some (state_of (contents_of self.old) name.now now)) class.now name.now place.now sets.now) result }
+            (is_some (state_of (contents_of self.old) insertion.now.name.now insertion.now.tick)) insertion.now.class.now insertion.now.name.now insertion.now.place.now insertion.now.sets.now) result }
         ensures err { OnErr result (IsUnchanged self.old self.new) }
     {
-        let Some(number) = self.schema.class_of(class) else {
+        let Some(number) = self.schema.class_of(insertion.class) else {
             return Err(StoreFault::UnknownName);
         };
-        let at = index_of(&self.objects, name);
-        if let Some(fault) = self.judge_insert(now, class, number, name, at, place, sets) {
+        let at = index_of(&self.objects, insertion.name);
+        if let Some(fault) = self.judge_insert(insertion, number, at) {
             return Err(fault);
         }
-        let done = self.write_insert(now, class, number, name, at, place, sets)?;
+        let done = self.write_insert(insertion, number, at)?;
         Ok(done)
     }
 
     /// The first fault of an insert into the class `number`, of a name whose index was looked up.
     fn judge_insert(
         &self,
-        now: u32,
-        class: &Word,
+        insertion: &Insertion,
         number: u32,
-        name: &Word,
         at: Option<usize>,
-        place: &Place,
-        sets: &[NamedSet],
     ) -> Option<StoreFault>
         requires kept { IsKept (members_of self.now) (contents_of self.now) }
-        requires after { HasNoWriteAfter (contents_of self.now) now }
-        requires class { position (λ k. bytes_eq class.now k.name) self.now.schema ≡ Some number }
-        requires name { at ≡ position (is_named name.now) (contents_of self.now).objects }
+        requires after { HasNoWriteAfter (contents_of self.now) insertion.now.tick }
+        requires class { position (λ k. bytes_eq insertion.now.class.now k.name) self.now.schema ≡ Some number }
+        requires name { at ≡ position (is_named insertion.now.name.now) (contents_of self.now).objects }
         ensures { result ≡ insert_fault (catalog_of (contents_of self.now))
-            (is_some (state_of (contents_of self.now) name.now now)) class.now name.now place.now sets.now }
+            (is_some (state_of (contents_of self.now) insertion.now.name.now insertion.now.tick)) insertion.now.class.now insertion.now.name.now insertion.now.place.now insertion.now.sets.now }
     {
         let kind = self.schema.class(number).unwrap();
         match at {
             Some(at) => {
-                let found = found_at(&self.objects, at, number, now);
-                insert_fault(kind, &found, place, sets)
+                let found = found_at(&self.objects, at, number, insertion.tick);
+                insert_fault(kind, &found, insertion.place, insertion.sets)
             }
             None => {
                 let found = new_name(&self.members[number as usize], kind);
-                insert_fault(kind, &found, place, sets)
+                insert_fault(kind, &found, insertion.place, insertion.sets)
             }
         }
     }
@@ -163,31 +162,27 @@ impl Tables {
     /// Does an insert that has no fault.
     fn write_insert(
         &mut self,
-        now: u32,
-        class: &Word,
+        insertion: &Insertion,
         number: u32,
-        name: &Word,
         at: Option<usize>,
-        place: &Place,
-        sets: &[NamedSet],
     ) -> Result<Done, AllocError>
         requires kept { IsKept (members_of self.old) (contents_of self.old) }
-        requires now { CanWriteAt (contents_of self.old) now }
-        requires given { AreGiven place.now sets.now }
-        requires class { position (λ k. bytes_eq class.now k.name) self.old.schema ≡ Some number }
-        requires name { at ≡ position (is_named name.now) (contents_of self.old).objects }
+        requires now { CanWriteAt (contents_of self.old) insertion.now.tick }
+        requires given { AreGiven insertion.now.place.now insertion.now.sets.now }
+        requires class { position (λ k. bytes_eq insertion.now.class.now k.name) self.old.schema ≡ Some number }
+        requires name { at ≡ position (is_named insertion.now.name.now) (contents_of self.old).objects }
         requires accepted { insert_fault (catalog_of (contents_of self.old))
-            (is_some (state_of (contents_of self.old) name.now now)) class.now name.now place.now sets.now ≡ None }
-        ensures ok { IfOk result (WritesNamed name.now (contents_of self.old)
-            (after_insert (contents_of self.old) now class.now name.now place.now sets.now) (members_of self.new) (contents_of self.new)) }
+            (is_some (state_of (contents_of self.old) insertion.now.name.now insertion.now.tick)) insertion.now.class.now insertion.now.name.now insertion.now.place.now insertion.now.sets.now ≡ None }
+        ensures ok { IfOk result (WritesNamed insertion.now.name.now (contents_of self.old)
+            (after_insert (contents_of self.old) insertion.now.tick insertion.now.class.now insertion.now.name.now insertion.now.place.now insertion.now.sets.now) (members_of self.new) (contents_of self.new)) }
         ensures err { OnErr result (IsUnchanged self.old self.new) }
     {
         let kind = self.schema.class(number).unwrap();
-        fill(&mut self.changes, kind, place, sets)?;
-        let cells = inserted(self.alloc, now, kind, &self.changes)?;
+        fill(&mut self.changes, kind, insertion.place, insertion.sets)?;
+        let cells = inserted(self.alloc, insertion.tick, kind, &self.changes)?;
         match at {
-            Some(at) => self.begin(now, number, name, at, cells),
-            None => self.enter(now, number, name, cells),
+            Some(at) => self.begin(insertion.tick, number, insertion.name, at, cells),
+            None => self.enter(insertion.tick, number, insertion.name, cells),
         }
     }
 

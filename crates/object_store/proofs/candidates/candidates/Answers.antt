@@ -10,10 +10,10 @@ use Rattle.object_store.proofs.candidates.candidates.Goals as goal
 
 pub returns-in-Some : goal.returns-in-Some
 returns-in-Some c =
-    let objects = objects_of c.args.objects.now.entries in
+    let objects = objects_of c.args.among.now.objects.now.entries in
     let area = c.args.area.now in
     let is : near_in c.args.places.now c.args.w.lo c.args.w.hi (patch_of area) ≡ Some c.in-Some.numbers.items =
     sym (ap (near_in c.args.places.now c.args.w.lo c.args.w.hi) c.patch-patch.ensures) ∙ sym c.in_ok-numbers.ensures ∙ ap (option_map (λ v. v.items)) c.in-Some.is
     in
-    subst (λ (ids : List ℕ). IsSearched (IsNowhere objects area c.args.w.lo c.args.w.hi) (ids_in objects c.args.class) ids []) (sym c.of_class.ensures)
-    (told c.args.places.now objects c.args.class area c.args.w.lo c.args.w.hi c.in-Some.numbers.items c.requires.placed is)
+    subst (λ (ids : List ℕ). IsSearched (IsNowhere objects area c.args.w.lo c.args.w.hi) (ids_in objects c.args.among.now.class) ids []) (sym c.of_class.ensures)
+    (told c.args.places.now objects c.args.among.now.class area c.args.w.lo c.args.w.hi c.in-Some.numbers.items c.requires.placed is)

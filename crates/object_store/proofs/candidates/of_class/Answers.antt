@@ -10,11 +10,11 @@ use Rattle.object_store.proofs.RunLemmas.{filter_either}
 use Rattle.object_store.proofs.candidates.of_class.Goals as goal
 
 pub run_of-run-requires : goal.run_of-run-requires
-run_of-run-requires c = subst (AreFrom 0) (sym c.requires) (ids_ascend (objects_of c.args.objects.now.entries) c.args.class)
+run_of-run-requires c = subst (AreFrom 0) (sym c.requires) (ids_ascend (objects_of c.args.among.now.objects.now.entries) c.args.among.now.class)
 
 pub returns : goal.returns
 returns c =
-    let objects = objects_of c.args.objects.now.entries in
+    let objects = objects_of c.args.among.now.objects.now.entries in
     let run = c.run_of-run.result in
-    filter_same _ (λ id. is_in_run run id || is_in_class objects c.args.class id) _ (λ x b f' k. search rules) _ _ c.retain.ensures.filtered
-    ∙ filter_either objects c.args.class c.args.own.now c.requires run c.args.numbers.items c.run_of-run.ensures
+    filter_same _ (λ id. is_in_run run id || is_in_class objects c.args.among.now.class id) _ (λ x b f' k. search rules) _ _ c.retain.ensures.filtered
+    ∙ filter_either objects c.args.among.now.class c.args.among.now.own.now c.requires run c.args.numbers.items c.run_of-run.ensures

@@ -10,4 +10,4 @@ pub returns-in_default-clause-judged : goal.returns-in_default-clause-judged
 returns-in_default-clause-judged c =
     let s : Contents = contents_of c.args.self.now in
     ap (λ fault. unwrap_or fault NoMemory)
-    (sym (insert_unknown s c.args.class.now c.args.name.now (is_some (state_of s c.args.name.now c.args.now)) c.args.place.now c.args.sets.now (sym c.class_of.ensures ∙ c.in_default.is)))
+    (sym (insert_unknown s c.args.insertion.now.class.now c.args.insertion.now.name.now (is_some (state_of s c.args.insertion.now.name.now c.args.insertion.now.tick)) c.args.insertion.now.place.now c.args.insertion.now.sets.now (sym c.class_of.ensures ∙ c.in_default.is)))

@@ -22,97 +22,97 @@ use Rattle.object_store.proofs.tables.Tables.write_insert.Goals as goal
 pub inserted-requires-clause-given : goal.inserted-requires-clause-given
 inserted-requires-clause-given c =
     subst AreChanges (sym (c.deref.ensures.value ∙ c.in_ok-fill.ensures))
-    (given_changes c.unwrap-kind.result.now.attributes (place_sets c.args.place.now ++ c.args.sets.now)
-    (given_all c.args.place.now c.args.sets.now c.requires.given))
+    (given_changes c.unwrap-kind.result.now.attributes (place_sets c.args.insertion.now.place.now ++ c.args.insertion.now.sets.now)
+    (given_all c.args.insertion.now.place.now c.args.insertion.now.sets.now c.requires.given))
 
 pub begin-requires-clause-fits : goal.begin-requires-clause-fits
 begin-requires-clause-fits c =
     let s : Contents = contents_of c.args.self.now in
-    let name : List ℕ = c.args.name.now in
+    let name : List ℕ = c.args.insertion.now.name.now in
     let k : ClassInfo = c.unwrap-kind.result.now in
-    let has : HasClass s.classes c.args.class.now c.args.number k =
-    has_class s.classes c.args.class.now c.args.number k c.requires.class
+    let has : HasClass s.classes c.args.insertion.now.class.now c.args.number k =
+    has_class s.classes c.args.insertion.now.class.now c.args.number k c.requires.class
     (class_there c.class.result c.unwrap-kind.result s.classes c.args.number c.class.ensures c.unwrap-kind.ensures)
     in
-    let is : c.in_ok-cells.cells.items ≡ inserted c.args.now k.attributes c.args.place.now c.args.sets.now =
-    cells_inserted c.args.now k.attributes c.args.place.now c.args.sets.now c.deref.result.now c.in_ok-cells.cells.items c.in_ok-cells.ensures.cells (c.deref.ensures.value ∙ c.in_ok-fill.ensures)
+    let is : c.in_ok-cells.cells.items ≡ inserted c.args.insertion.now.tick k.attributes c.args.insertion.now.place.now c.args.insertion.now.sets.now =
+    cells_inserted c.args.insertion.now.tick k.attributes c.args.insertion.now.place.now c.args.insertion.now.sets.now c.deref.result.now c.in_ok-cells.cells.items c.in_ok-cells.ensures.cells (c.deref.ensures.value ∙ c.in_ok-fill.ensures)
     in
-    inserted_fits s.classes c.args.class.now c.args.number k c.args.now c.args.place.now c.args.sets.now c.in_ok-cells.cells.items has is
+    inserted_fits s.classes c.args.insertion.now.class.now c.args.number k c.args.insertion.now.tick c.args.insertion.now.place.now c.args.insertion.now.sets.now c.in_ok-cells.cells.items has is
 
 pub begin-requires-clause-class : goal.begin-requires-clause-class
 begin-requires-clause-class c =
     let s : Contents = contents_of c.args.self.now in
-    let name : List ℕ = c.args.name.now in
+    let name : List ℕ = c.args.insertion.now.name.now in
     let k : ClassInfo = c.unwrap-kind.result.now in
-    let has : HasClass s.classes c.args.class.now c.args.number k =
-    has_class s.classes c.args.class.now c.args.number k c.requires.class
+    let has : HasClass s.classes c.args.insertion.now.class.now c.args.number k =
+    has_class s.classes c.args.insertion.now.class.now c.args.number k c.requires.class
     (class_there c.class.result c.unwrap-kind.result s.classes c.args.number c.class.ensures c.unwrap-kind.ensures)
     in
     let at = object_at_index name s.objects c.in-Some.at (sym c.requires.name ∙ c.in-Some.is) in
     let found = found_there name s.objects c.in-Some.at at.0 (sym c.requires.name ∙ c.in-Some.is) at.1 in
     if_there s.objects c.in-Some.at at.0 _ at.1
-    (own_class_of s c.args.class.now c.args.number k has name c.args.now c.args.place.now c.args.sets.now c.requires.accepted at.0 found)
+    (own_class_of s c.args.insertion.now.class.now c.args.number k has name c.args.insertion.now.tick c.args.insertion.now.place.now c.args.insertion.now.sets.now c.requires.accepted at.0 found)
 
 pub enter-requires-clause-fits : goal.enter-requires-clause-fits
 enter-requires-clause-fits c =
     let s : Contents = contents_of c.args.self.now in
-    let name : List ℕ = c.args.name.now in
+    let name : List ℕ = c.args.insertion.now.name.now in
     let k : ClassInfo = c.unwrap-kind.result.now in
-    let has : HasClass s.classes c.args.class.now c.args.number k =
-    has_class s.classes c.args.class.now c.args.number k c.requires.class
+    let has : HasClass s.classes c.args.insertion.now.class.now c.args.number k =
+    has_class s.classes c.args.insertion.now.class.now c.args.number k c.requires.class
     (class_there c.class.result c.unwrap-kind.result s.classes c.args.number c.class.ensures c.unwrap-kind.ensures)
     in
-    let is : c.in_ok-cells.cells.items ≡ inserted c.args.now k.attributes c.args.place.now c.args.sets.now =
-    cells_inserted c.args.now k.attributes c.args.place.now c.args.sets.now c.deref.result.now c.in_ok-cells.cells.items c.in_ok-cells.ensures.cells (c.deref.ensures.value ∙ c.in_ok-fill.ensures)
+    let is : c.in_ok-cells.cells.items ≡ inserted c.args.insertion.now.tick k.attributes c.args.insertion.now.place.now c.args.insertion.now.sets.now =
+    cells_inserted c.args.insertion.now.tick k.attributes c.args.insertion.now.place.now c.args.insertion.now.sets.now c.deref.result.now c.in_ok-cells.cells.items c.in_ok-cells.ensures.cells (c.deref.ensures.value ∙ c.in_ok-fill.ensures)
     in
-    inserted_fits s.classes c.args.class.now c.args.number k c.args.now c.args.place.now c.args.sets.now c.in_ok-cells.cells.items has is
+    inserted_fits s.classes c.args.insertion.now.class.now c.args.number k c.args.insertion.now.tick c.args.insertion.now.place.now c.args.insertion.now.sets.now c.in_ok-cells.cells.items has is
 
 pub enter-requires-clause-name : goal.enter-requires-clause-name
 enter-requires-clause-name c =
     let s : Contents = contents_of c.args.self.now in
-    found_nowhere c.args.name.now s.objects (sym c.requires.name ∙ c.in-None.is)
+    found_nowhere c.args.insertion.now.name.now s.objects (sym c.requires.name ∙ c.in-None.is)
 
 pub enter-requires-clause-room : goal.enter-requires-clause-room
 enter-requires-clause-room c =
     let s : Contents = contents_of c.args.self.now in
-    let name : List ℕ = c.args.name.now in
+    let name : List ℕ = c.args.insertion.now.name.now in
     let k : ClassInfo = c.unwrap-kind.result.now in
-    let has : HasClass s.classes c.args.class.now c.args.number k =
-    has_class s.classes c.args.class.now c.args.number k c.requires.class
+    let has : HasClass s.classes c.args.insertion.now.class.now c.args.number k =
+    has_class s.classes c.args.insertion.now.class.now c.args.number k c.requires.class
     (class_there c.class.result c.unwrap-kind.result s.classes c.args.number c.class.ensures c.unwrap-kind.ensures)
     in
     let new = found_nowhere name s.objects (sym c.requires.name ∙ c.in-None.is) in
-    room_for_new s c.args.class.now c.args.number k has name c.args.now c.args.place.now c.args.sets.now c.requires.accepted new
+    room_for_new s c.args.insertion.now.class.now c.args.number k has name c.args.insertion.now.tick c.args.insertion.now.place.now c.args.insertion.now.sets.now c.requires.accepted new
 
 pub returns-in-Some-clause-ok : goal.returns-in-Some-clause-ok
 returns-in-Some-clause-ok c =
     let s : Contents = contents_of c.args.self.now in
-    let name : List ℕ = c.args.name.now in
+    let name : List ℕ = c.args.insertion.now.name.now in
     let k : ClassInfo = c.unwrap-kind.result.now in
-    let has : HasClass s.classes c.args.class.now c.args.number k =
-    has_class s.classes c.args.class.now c.args.number k c.requires.class
+    let has : HasClass s.classes c.args.insertion.now.class.now c.args.number k =
+    has_class s.classes c.args.insertion.now.class.now c.args.number k c.requires.class
     (class_there c.class.result c.unwrap-kind.result s.classes c.args.number c.class.ensures c.unwrap-kind.ensures)
     in
-    let is : c.in_ok-cells.cells.items ≡ inserted c.args.now k.attributes c.args.place.now c.args.sets.now =
-    cells_inserted c.args.now k.attributes c.args.place.now c.args.sets.now c.deref.result.now c.in_ok-cells.cells.items c.in_ok-cells.ensures.cells (c.deref.ensures.value ∙ c.in_ok-fill.ensures)
+    let is : c.in_ok-cells.cells.items ≡ inserted c.args.insertion.now.tick k.attributes c.args.insertion.now.place.now c.args.insertion.now.sets.now =
+    cells_inserted c.args.insertion.now.tick k.attributes c.args.insertion.now.place.now c.args.insertion.now.sets.now c.deref.result.now c.in_ok-cells.cells.items c.in_ok-cells.ensures.cells (c.deref.ensures.value ∙ c.in_ok-fill.ensures)
     in
     let at = object_at_index name s.objects c.in-Some.at (sym c.requires.name ∙ c.in-Some.is) in
     let found = found_there name s.objects c.in-Some.at at.0 (sym c.requires.name ∙ c.in-Some.is) at.1 in
     subst (λ after. IfOk c.begin.result (λ (done : Done). WritesNamed name s after (members_of c.begin.new.self) (contents_of c.begin.new.self) done))
-    (sym (after_known s c.args.class.now c.args.number k has name c.args.now c.args.place.now c.args.sets.now c.in_ok-cells.cells.items is at.0 found)) c.begin.ensures.ok
+    (sym (after_known s c.args.insertion.now.class.now c.args.number k has name c.args.insertion.now.tick c.args.insertion.now.place.now c.args.insertion.now.sets.now c.in_ok-cells.cells.items is at.0 found)) c.begin.ensures.ok
 
 pub returns-in-None-clause-ok : goal.returns-in-None-clause-ok
 returns-in-None-clause-ok c =
     let s : Contents = contents_of c.args.self.now in
-    let name : List ℕ = c.args.name.now in
+    let name : List ℕ = c.args.insertion.now.name.now in
     let k : ClassInfo = c.unwrap-kind.result.now in
-    let has : HasClass s.classes c.args.class.now c.args.number k =
-    has_class s.classes c.args.class.now c.args.number k c.requires.class
+    let has : HasClass s.classes c.args.insertion.now.class.now c.args.number k =
+    has_class s.classes c.args.insertion.now.class.now c.args.number k c.requires.class
     (class_there c.class.result c.unwrap-kind.result s.classes c.args.number c.class.ensures c.unwrap-kind.ensures)
     in
-    let is : c.in_ok-cells.cells.items ≡ inserted c.args.now k.attributes c.args.place.now c.args.sets.now =
-    cells_inserted c.args.now k.attributes c.args.place.now c.args.sets.now c.deref.result.now c.in_ok-cells.cells.items c.in_ok-cells.ensures.cells (c.deref.ensures.value ∙ c.in_ok-fill.ensures)
+    let is : c.in_ok-cells.cells.items ≡ inserted c.args.insertion.now.tick k.attributes c.args.insertion.now.place.now c.args.insertion.now.sets.now =
+    cells_inserted c.args.insertion.now.tick k.attributes c.args.insertion.now.place.now c.args.insertion.now.sets.now c.deref.result.now c.in_ok-cells.cells.items c.in_ok-cells.ensures.cells (c.deref.ensures.value ∙ c.in_ok-fill.ensures)
     in
     let new = found_nowhere name s.objects (sym c.requires.name ∙ c.in-None.is) in
     subst (λ after. IfOk c.enter.result (λ (done : Done). WritesNamed name s after (members_of c.enter.new.self) (contents_of c.enter.new.self) done))
-    (sym (after_new s c.args.class.now c.args.number k has name c.args.now c.args.place.now c.args.sets.now c.in_ok-cells.cells.items is new)) c.enter.ensures.ok
+    (sym (after_new s c.args.insertion.now.class.now c.args.number k has name c.args.insertion.now.tick c.args.insertion.now.place.now c.args.insertion.now.sets.now c.in_ok-cells.cells.items is new)) c.enter.ensures.ok
