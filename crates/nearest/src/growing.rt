@@ -5,10 +5,10 @@ ghost use Rattle.nearest.specs.Courses.{HaveAscendingIndexes};
 ghost use Rattle.nearest.specs.Found.{AreBefore, HaveMore};
 ghost use Rattle.exact.specs.Lists.{SameLength};
 
+use crate::aim::Aim;
 use crate::course::Course;
 use crate::outset::first_slice;
 use crate::slices::add_slices;
-use motion::Timeline;
 use std::alloc::{AllocError, Global};
 use tick_set::{Runs, Window};
 
@@ -18,8 +18,7 @@ pub fn add_growing(
     found: &mut Vec<Runs>,
     alloc: Global,
     courses: &[Course],
-    target: &Timeline,
-    k: u32,
+    aim: &Aim,
     w: Window,
     left: &mut u64,
 ) -> Result<u32, AllocError>
@@ -27,14 +26,14 @@ pub fn add_growing(
     requires before { AreBefore w.lo found.old.items }
     ensures length { SameLength found.new.items found.old.items }
     ensures bounds { IfOk result (λ until. (w.lo ≤ until) × (until ≤ w.hi + 1)) }
-    ensures found { IfOk result (λ until. HaveMore target.now courses.now k w.lo until found.old.items found.new.items) }
+    ensures found { IfOk result (λ until. HaveMore aim.now.target.now courses.now aim.now.k w.lo until found.old.items found.new.items) }
 {
-    let first = first_slice(alloc, courses, target, k, w)?;
+    let first = first_slice(alloc, courses, aim, w)?;
     let mut more = first.hi - first.lo;
     let mut at = w.lo;
     'growing: while at <= w.hi {
         let slice = slice_from(at, more, w.hi);
-        let until = add_slices(found, alloc, courses, target, k, slice, left)?;
+        let until = add_slices(found, alloc, courses, aim, slice, left)?;
         if until <= slice.hi {
             return Ok(until);
         }

@@ -11,6 +11,7 @@
 //! window is one slice.
 #![tactic(auto)]
 
+mod aim;
 mod band;
 mod certain;
 mod course;
@@ -24,6 +25,7 @@ mod pairs;
 mod parabola;
 mod parts;
 mod placed;
+mod rivals;
 mod roots;
 mod rows;
 mod sight;

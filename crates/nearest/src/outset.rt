@@ -1,10 +1,10 @@
 //! How long the first slice of time is.
 ghost use Rattle.std.specs.Prelude.{◌≡◌, ◌≤◌, IfOk};
 
+use crate::aim::Aim;
 use crate::course::Course;
 use crate::slices::halves;
 use crate::thinning::thinned;
-use motion::Timeline;
 use std::alloc::{AllocError, Global};
 use tick_set::Window;
 
@@ -13,20 +13,19 @@ use tick_set::Window;
 pub fn first_slice(
     alloc: Global,
     courses: &[Course],
-    target: &Timeline,
-    k: u32,
+    aim: &Aim,
     w: Window,
 ) -> Result<Window, AllocError>
     ensures begins { IfOk result (λ first. first.lo ≡ w.lo) }
     ensures ends { IfOk result (λ first. first.hi ≤ w.hi) }
 {
-    let sample = sample_of(alloc, courses, k)?;
+    let sample = sample_of(alloc, courses, aim.k)?;
     let mut slice = w;
-    let mut crowded = is_crowded(alloc, &sample, target, k, slice)?;
+    let mut crowded = is_crowded(alloc, &sample, aim, slice)?;
     'halving: while crowded && slice.lo < slice.hi {
         let (first, _) = halves(slice);
         slice = first;
-        crowded = is_crowded(alloc, &sample, target, k, slice)?;
+        crowded = is_crowded(alloc, &sample, aim, slice)?;
     }
     Ok(slice)
 }
@@ -52,10 +51,9 @@ fn sample_of<'a>(
 fn is_crowded(
     alloc: Global,
     courses: &[Course],
-    target: &Timeline,
-    k: u32,
+    aim: &Aim,
     slice: Window,
 ) -> Result<bool, AllocError> {
-    let few = thinned(alloc, courses, target, k, slice)?;
+    let few = thinned(alloc, courses, aim, slice)?;
     Ok(courses.len() < few.len().saturating_mul(2))
 }

@@ -8,11 +8,13 @@ ghost use Rattle.nearest.specs.Courses.{goes_before, rank_along};
 ghost use Rattle.nearest.specs.Depth.{depth_at, one_if};
 ghost use Rattle.nearest.specs.Sights.{AreFewWithin, IsSeenFrom};
 
+use crate::aim::Aim;
 use crate::band::order_by_bounds;
 use crate::certain::stays_within;
 use crate::course::Course;
 use crate::nearer::nearer;
 use crate::parts::before_in;
+use crate::rivals::Rivals;
 use crate::sight::Sight;
 use courses::common_from;
 use linear_crossing::Pair;
@@ -20,34 +22,33 @@ use motion::Timeline;
 use std::alloc::AllocError;
 use tick_set::{Span, Window};
 
-/// Adds stretches of the window at which some of the objects stand before another, as seen from the object of the
-/// timeline `target`, and tells how many others do so throughout. Where these are `k`, some may be left out. All are where
-/// fewer than `k` do so at any tick, as it never passes the square `sure`, within which fewer than `k` may come.
+/// Adds stretches of the window at which some of the rivals stand before another object, and tells how many others do so
+/// throughout. Where these are `k`, some may be left out. All are where fewer than `k` do so at any tick, as it never
+/// passes the square within which fewer than `k` may come.
 pub fn gather(
     stretches: &mut Vec<Span>,
-    courses: &[Course],
+    rivals: &Rivals,
     o: &Course,
-    target: &Timeline,
-    k: u32,
-    sure: Option<u128>,
+    aim: &Aim,
     w: Window,
 ) -> Result<u32, AllocError>
-    requires seen { All (IsSeenFrom target.now w) courses.now }
-    requires o_seen { IsSeenFrom target.now w o.now }
+    requires seen { All (IsSeenFrom aim.now.target.now w) rivals.now.courses.now }
+    requires o_seen { IsSeenFrom aim.now.target.now w o.now }
     requires none { stretches.old.items ≡ [] }
-    requires sure { AreFewWithin k sure courses.now }
+    requires sure { AreFewWithin aim.now.k rivals.now.sure rivals.now.courses.now }
     ensures { IfOk result (λ throughout. (t : ℕ) → within w.lo w.hi t ≡ true
-        → nat_lt (depth_at stretches.new.items t) (k - throughout) ≡ nat_lt (rank_along target.now courses.now o.now t) k) }
+        → nat_lt (depth_at stretches.new.items t) (aim.now.k - throughout)
+        ≡ nat_lt (rank_along aim.now.target.now rivals.now.courses.now o.now t) aim.now.k) }
 {
-    if stays_within(&o.sight, sure) {
+    if stays_within(&o.sight, rivals.sure) {
         return Ok(0);
     }
     let mut throughout = 0;
-    'courses: for p in courses {
-        if throughout == k {
+    'courses: for p in rivals.courses {
+        if throughout == aim.k {
             return Ok(throughout);
         }
-        let before = add_unless_known(stretches, p, o, target, w)?;
+        let before = add_unless_known(stretches, p, o, aim.target, w)?;
         throughout = with_one(throughout, before);
     }
     Ok(throughout)

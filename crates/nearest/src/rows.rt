@@ -10,10 +10,10 @@ ghost use Rattle.nearest.specs.Courses.{AreNumbered};
 ghost use Rattle.nearest.specs.Rows.{if_some, object_row, rows_along, told_near};
 ghost use Rattle.steps.specs.Counting.{StepsAtMost};
 
+use crate::aim::Aim;
 use crate::course::{Course, courses_of};
 use crate::slices::near_runs;
 use interval_set::IntervalSet;
-use motion::Timeline;
 use object_store::{ClassId, ObjectId, Store};
 use std::alloc::{AllocError, Global};
 use std::sync::ledger::Ledger;
@@ -50,22 +50,22 @@ pub fn nearest_rows<L: Ledger, M: Ledger>(
 {
     let target = store.timeline(to, reads);
     let courses = courses_of(alloc, class, to, store, reads)?;
-    let rows = rows_of(alloc, &courses, target, k, w)?;
+    let aim = Aim { target, k };
+    let rows = rows_of(alloc, &courses, &aim, w)?;
     Ok(rows)
 }
 
-// The rows of these objects, as seen from the object of the timeline `target`.
+// The rows of these objects.
 fn rows_of(
     alloc: Global,
     courses: &[Course],
-    target: &Timeline,
-    k: u32,
+    aim: &Aim,
     w: Window,
 ) -> Result<Vec<NearRow>, AllocError>
     requires { AreNumbered 0 courses.now }
-    ensures { IfOk result (λ rows. told_near rows.items ≡ rows_along target.now courses.now k w courses.now) }
+    ensures { IfOk result (λ rows. told_near rows.items ≡ rows_along aim.now.target.now courses.now aim.now.k w courses.now) }
 {
-    let found = near_runs(alloc, courses, target, k, w)?;
+    let found = near_runs(alloc, courses, aim, w)?;
     let mut rows = Vec::new(alloc);
     'objects: for o in courses {
         let runs = &found[o.index];

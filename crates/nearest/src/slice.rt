@@ -7,14 +7,15 @@ ghost use Rattle.nearest.specs.Found.{FitSlice, HaveMore};
 ghost use Rattle.nearest.specs.Sights.{AreFewWithin, IsSeenFrom};
 ghost use Rattle.exact.specs.Lists.{SameLength};
 
+use crate::aim::Aim;
 use crate::certain::sure_bound;
 use crate::course::Course;
 use crate::found::append_at;
 use crate::pairs::gather;
 use crate::placed::placed_runs;
+use crate::rivals::Rivals;
 use crate::sweep::ticks_below;
 use interval_set::IntervalSet;
-use motion::Timeline;
 use std::alloc::{AllocError, Global};
 use tick_set::{Runs, Span, TickSet, Window};
 
@@ -23,73 +24,69 @@ pub fn add_near(
     found: &mut Vec<Runs>,
     alloc: Global,
     courses: &[Course],
-    target: &Timeline,
-    k: u32,
+    aim: &Aim,
     slice: Window,
 ) -> Result<(), AllocError>
-    requires { FitSlice target.now slice courses.now found.old.items }
+    requires { FitSlice aim.now.target.now slice courses.now found.old.items }
     ensures length { SameLength found.new.items found.old.items }
     ensures found { OnOk result
-        (HaveMore target.now courses.now k slice.lo (slice.hi + 1) found.old.items found.new.items) }
+        (HaveMore aim.now.target.now courses.now aim.now.k slice.lo (slice.hi + 1) found.old.items found.new.items) }
 {
     let mut stretches = Vec::new(alloc);
-    let sure = sure_bound(alloc, courses, k)?;
+    let sure = sure_bound(alloc, courses, aim.k)?;
+    let rivals = Rivals { courses, sure };
     'objects: for o in courses {
-        let ticks = near_ticks(alloc, &mut stretches, courses, o, target, k, sure, slice)?;
+        let ticks = near_ticks(alloc, &mut stretches, &rivals, o, aim, slice)?;
         append_at(found, o.index, ticks.spans())?;
     }
     Ok(())
 }
 
-// The ticks of the slice at which one of the objects is near: it has a place, as the object of the timeline `target` has,
-// and fewer than `k` stand before it. Within the square `sure` fewer than `k` may come.
+// The ticks of the slice at which one of the objects is near: it has a place, as the object that is aimed from has, and
+// fewer than `k` of its rivals stand before it.
 fn near_ticks(
     alloc: Global,
     stretches: &mut Vec<Span>,
-    courses: &[Course],
+    rivals: &Rivals,
     o: &Course,
-    target: &Timeline,
-    k: u32,
-    sure: Option<u128>,
+    aim: &Aim,
     slice: Window,
 ) -> Result<IntervalSet, AllocError>
-    requires seen { All (IsSeenFrom target.now slice) courses.now }
-    requires o_seen { IsSeenFrom target.now slice o.now }
-    requires sure { AreFewWithin k sure courses.now }
+    requires seen { All (IsSeenFrom aim.now.target.now slice) rivals.now.courses.now }
+    requires o_seen { IsSeenFrom aim.now.target.now slice o.now }
+    requires sure { AreFewWithin aim.now.k rivals.now.sure rivals.now.courses.now }
     ensures { IfOk result (λ ticks. (t : ℕ) → spans_have ticks t
-        ≡ (within slice.lo slice.hi t && is_near_along target.now courses.now k o.now t)) }
+        ≡ (within slice.lo slice.hi t && is_near_along aim.now.target.now rivals.now.courses.now aim.now.k o.now t)) }
 {
-    let below = few_before(alloc, stretches, courses, o, target, k, sure, slice)?;
+    let below = few_before(alloc, stretches, rivals, o, aim, slice)?;
     let few = IntervalSet::from_runs(below);
     if o.sight.is_straight() {
         return Ok(few);
     }
-    let there = placed_runs(alloc, target, o.timeline, slice)?;
+    let there = placed_runs(alloc, aim.target, o.timeline, slice)?;
     let placed = IntervalSet::from_runs(there);
     let both = few.meet(alloc, &placed)?;
     Ok(both)
 }
 
-// The ticks of the slice at which fewer than `k` of the objects stand before one of them. The stretches are for the
+// The ticks of the slice at which fewer than `k` of the rivals stand before one of the objects. The stretches are for the
 // memory that they have.
 fn few_before(
     alloc: Global,
     stretches: &mut Vec<Span>,
-    courses: &[Course],
+    rivals: &Rivals,
     o: &Course,
-    target: &Timeline,
-    k: u32,
-    sure: Option<u128>,
+    aim: &Aim,
     slice: Window,
 ) -> Result<Vec<Span>, AllocError>
-    requires seen { All (IsSeenFrom target.now slice) courses.now }
-    requires o_seen { IsSeenFrom target.now slice o.now }
-    requires sure { AreFewWithin k sure courses.now }
+    requires seen { All (IsSeenFrom aim.now.target.now slice) rivals.now.courses.now }
+    requires o_seen { IsSeenFrom aim.now.target.now slice o.now }
+    requires sure { AreFewWithin aim.now.k rivals.now.sure rivals.now.courses.now }
     ensures { IfOk result (λ runs. IsRuns (λ t. within slice.lo slice.hi t
-        && nat_lt (rank_along target.now courses.now o.now t) k) runs.items) }
+        && nat_lt (rank_along aim.now.target.now rivals.now.courses.now o.now t) aim.now.k) runs.items) }
 {
     stretches.clear();
-    let throughout = gather(stretches, courses, o, target, k, sure, slice)?;
-    let runs = ticks_below(alloc, stretches, k.saturating_sub(throughout), slice)?;
+    let throughout = gather(stretches, rivals, o, aim, slice)?;
+    let runs = ticks_below(alloc, stretches, aim.k.saturating_sub(throughout), slice)?;
     Ok(runs)
 }

@@ -6,12 +6,12 @@ ghost use Rattle.nearest.specs.Courses.{AreNumbered, HaveAscendingIndexes, index
 ghost use Rattle.nearest.specs.Found.{AreBefore, FitSlice, HaveMore, runs_at};
 ghost use Rattle.exact.specs.Lists.{SameLength};
 
+use crate::aim::Aim;
 use crate::course::Course;
 use crate::found::none_found;
 use crate::growing::add_growing;
 use crate::slice::add_near;
 use crate::thinning::thinned;
-use motion::Timeline;
 use std::alloc::{AllocError, Global};
 use tick_set::{Runs, Window};
 
@@ -19,18 +19,17 @@ use tick_set::{Runs, Window};
 pub fn near_runs(
     alloc: Global,
     courses: &[Course],
-    target: &Timeline,
-    k: u32,
+    aim: &Aim,
     w: Window,
 ) -> Result<Vec<Runs>, AllocError>
     requires { AreNumbered 0 courses.now }
     ensures length { IfOk result (λ found. SameLength found.items courses.now) }
     ensures found { IfOk result (λ found. (i t : ℕ) → i < length courses.now → spans_have (runs_at found.items i) t
-        ≡ (within w.lo w.hi t && index_near target.now courses.now k courses.now i t)) }
+        ≡ (within w.lo w.hi t && index_near aim.now.target.now courses.now aim.now.k courses.now i t)) }
 {
     let mut found = none_found(alloc, courses.len())?;
     let mut left = cost_of_pairs(courses.len());
-    let until = add_growing(&mut found, alloc, courses, target, k, w, &mut left)?;
+    let until = add_growing(&mut found, alloc, courses, aim, w, &mut left)?;
     if w.hi < until {
         return Ok(found);
     }
@@ -38,7 +37,7 @@ pub fn near_runs(
         lo: until,
         hi: w.hi,
     };
-    add_rest(&mut found, alloc, courses, target, k, rest)?;
+    add_rest(&mut found, alloc, courses, aim, rest)?;
     Ok(found)
 }
 
@@ -54,8 +53,7 @@ pub fn add_slices(
     found: &mut Vec<Runs>,
     alloc: Global,
     courses: &[Course],
-    target: &Timeline,
-    k: u32,
+    aim: &Aim,
     slice: Window,
     left: &mut u64,
 ) -> Result<u32, AllocError>
@@ -63,20 +61,20 @@ pub fn add_slices(
     requires before { AreBefore slice.lo found.old.items }
     ensures length { SameLength found.new.items found.old.items }
     ensures bounds { IfOk result (λ until. (slice.lo ≤ until) × (until ≤ slice.hi + 1)) }
-    ensures found { IfOk result (λ until. HaveMore target.now courses.now k slice.lo until found.old.items found.new.items) }
+    ensures found { IfOk result (λ until. HaveMore aim.now.target.now courses.now aim.now.k slice.lo until found.old.items found.new.items) }
 {
-    let few = thinned(alloc, courses, target, k, slice)?;
+    let few = thinned(alloc, courses, aim, slice)?;
     spend(left, courses.len() as u64);
-    if is_few(few.len(), k) || slice.lo == slice.hi {
-        let done = add_slice(found, alloc, &few, target, k, slice, left)?;
+    if is_few(few.len(), aim.k) || slice.lo == slice.hi {
+        let done = add_slice(found, alloc, &few, aim, slice, left)?;
         return Ok(done);
     }
     let (first, second) = halves(slice);
-    let reached = add_slices(found, alloc, &few, target, k, first, left)?;
+    let reached = add_slices(found, alloc, &few, aim, first, left)?;
     if reached <= first.hi {
         return Ok(reached);
     }
-    let until = add_slices(found, alloc, &few, target, k, second, left)?;
+    let until = add_slices(found, alloc, &few, aim, second, left)?;
     Ok(until)
 }
 
@@ -113,22 +111,21 @@ fn add_slice(
     found: &mut Vec<Runs>,
     alloc: Global,
     courses: &[Course],
-    target: &Timeline,
-    k: u32,
+    aim: &Aim,
     slice: Window,
     left: &mut u64,
 ) -> Result<u32, AllocError>
-    requires { FitSlice target.now slice courses.now found.old.items }
+    requires { FitSlice aim.now.target.now slice courses.now found.old.items }
     ensures length { SameLength found.new.items found.old.items }
     ensures bounds { IfOk result (λ until. (slice.lo ≤ until) × (until ≤ slice.hi + 1)) }
-    ensures found { IfOk result (λ until. HaveMore target.now courses.now k slice.lo until found.old.items found.new.items) }
+    ensures found { IfOk result (λ until. HaveMore aim.now.target.now courses.now aim.now.k slice.lo until found.old.items found.new.items) }
 {
     let cost = cost_of_pairs(courses.len());
     if *left < cost {
         return Ok(slice.lo);
     }
     spend(left, cost);
-    add_near(found, alloc, courses, target, k, slice)?;
+    add_near(found, alloc, courses, aim, slice)?;
     Ok(slice.hi + 1)
 }
 
@@ -137,17 +134,16 @@ fn add_rest(
     found: &mut Vec<Runs>,
     alloc: Global,
     courses: &[Course],
-    target: &Timeline,
-    k: u32,
+    aim: &Aim,
     slice: Window,
 ) -> Result<(), AllocError>
     requires ascending { HaveAscendingIndexes 0 (length found.old.items) courses.now }
     requires before { AreBefore slice.lo found.old.items }
     ensures length { SameLength found.new.items found.old.items }
     ensures found { OnOk result
-        (HaveMore target.now courses.now k slice.lo (slice.hi + 1) found.old.items found.new.items) }
+        (HaveMore aim.now.target.now courses.now aim.now.k slice.lo (slice.hi + 1) found.old.items found.new.items) }
 {
-    let few = thinned(alloc, courses, target, k, slice)?;
-    add_near(found, alloc, &few, target, k, slice)?;
+    let few = thinned(alloc, courses, aim, slice)?;
+    add_near(found, alloc, &few, aim, slice)?;
     Ok(())
 }

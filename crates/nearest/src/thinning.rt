@@ -6,6 +6,7 @@ ghost use Rattle.nearest.specs.Courses.{HaveAscendingIndexes};
 ghost use Rattle.nearest.specs.Depth.{count_to, one_if};
 ghost use Rattle.nearest.specs.Sights.{AreEnough, IsSeenFrom, course_body, is_surely_within, may_come_within};
 
+use crate::aim::Aim;
 use crate::course::Course;
 use crate::sight::{Sight, sight_of};
 use motion::Timeline;
@@ -17,16 +18,15 @@ use tick_set::Window;
 pub fn thinned<'a>(
     alloc: Global,
     courses: &[Course<'a>],
-    target: &Timeline,
-    k: u32,
+    aim: &Aim,
     slice: Window,
 ) -> Result<Vec<Course<'a>>, AllocError>
-    ensures seen { IfOk result (λ few. All (IsSeenFrom target.now slice) few.items) }
+    ensures seen { IfOk result (λ few. All (IsSeenFrom aim.now.target.now slice) few.items) }
     ensures ascending { IfOk result (λ few. (n : ℕ) → HaveAscendingIndexes 0 n courses.now → HaveAscendingIndexes 0 n few.items) }
-    ensures enough { IfOk result (λ few. AreEnough target.now k slice few.items courses.now) }
+    ensures enough { IfOk result (λ few. AreEnough aim.now.target.now aim.now.k slice few.items courses.now) }
 {
-    let seen = seen_in(alloc, courses, target, slice)?;
-    let bound = bound_of(alloc, &seen, k)?;
+    let seen = seen_in(alloc, courses, aim.target, slice)?;
+    let bound = bound_of(alloc, &seen, aim.k)?;
     let few = kept(seen, bound);
     Ok(few)
 }

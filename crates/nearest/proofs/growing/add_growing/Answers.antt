@@ -10,7 +10,7 @@ growing-init c = record {
   until = let order : c.args.w.lo ≤ c.args.w.hi = c.args.w.ordered in omega (arith, order);
   count = refl;
   before = c.requires.before;
-  added = nothing_more c.args.target.now c.args.courses.now c.args.k c.args.w.lo c.args.found.now.items;
+  added = nothing_more c.args.aim.now.target.now c.args.courses.now c.args.aim.now.k c.args.w.lo c.args.found.now.items;
 }
 
 pub add_slices-requires-clause-ascending : goal.add_slices-requires-clause-ascending
@@ -29,14 +29,14 @@ returns-then-until-slice-clause-found c =
     let until = c.in_ok-until.until in
     let begins : slice.lo ≡ at = c.slice_from-slice.ensures.begins in
     let low = c.in_ok-until.ensures.bounds.0 in
-    both_found c.args.target.now c.args.courses.now c.args.k lo lo at slice.lo until c.args.found.now.items c.growing.found.items c.add_slices.new.found.items
+    both_found c.args.aim.now.target.now c.args.courses.now c.args.aim.now.k lo lo at slice.lo until c.args.found.now.items c.growing.found.items c.add_slices.new.found.items
     refl begins c.growing.invariant.begun (omega (arith, begins, low)) c.growing.invariant.count c.growing.invariant.added c.in_ok-until.ensures.found
 
 pub growing-preserved : goal.growing-preserved
 growing-preserved c =
-    let from = c.args.target.now in
+    let from = c.args.aim.now.target.now in
     let courses = c.args.courses.now in
-    let k = c.args.k in
+    let k = c.args.aim.now.k in
     let at = c.growing.at in
     let lo = c.args.w.lo in
     let slice = c.slice_from-slice.result in

@@ -9,7 +9,7 @@ invariant-growing l = record {
   until : l.at ≤ l.w.hi + 1;
   count : length l.found.items ≡ length l.initial.found.items;
   before : AreBefore l.at l.found.items;
-  added : HaveMore l.target l.courses l.k l.w.lo l.at l.initial.found.items l.found.items;
+  added : HaveMore l.aim.target.now l.courses l.aim.k l.w.lo l.at l.initial.found.items l.found.items;
 }
 
 abbrev pub decreases-growing : goal.decreases-growing

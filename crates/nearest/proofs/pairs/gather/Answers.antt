@@ -15,29 +15,29 @@ returns-then-stays_within c = λ t inside.
     let w = c.args.w in
     let from : w.lo ≤ t = grind (arith, nat_tests) in
     let up_to : t ≤ w.hi = grind (arith, nat_tests) in
-    none_of_few (rank_along c.args.target.now c.args.courses.now c.args.o.now t) c.args.k (depth_at c.args.stretches.now.items t)
+    none_of_few (rank_along c.args.aim.now.target.now c.args.rivals.now.courses.now c.args.o.now t) c.args.aim.now.k (depth_at c.args.stretches.now.items t)
     (ap (λ spans. depth_at spans t) c.requires.none)
-    (surely_near c.args.target.now c.args.k t w c.args.sure c.args.courses.now c.args.o.now c.requires.seen c.requires.o_seen c.requires.sure
+    (surely_near c.args.aim.now.target.now c.args.aim.now.k t w c.args.rivals.now.sure c.args.rivals.now.courses.now c.args.o.now c.requires.seen c.requires.o_seen c.requires.sure
     (sym c.stays_within.ensures ∙ c.if-stays_within.true) from up_to)
 
-pub returns-then-throughout-k : goal.returns-then-throughout-k
-returns-then-throughout-k c = λ t inside.
-    let f = λ (p : Course). goes_before c.args.target.now p c.args.o.now t in
-    too_many c.args.k _ _ _ _ (omega arith) (c.courses.invariant.counted t inside) (counted_front f c.courses.p-index c.args.courses.now)
+pub returns-then-throughout-aim : goal.returns-then-throughout-aim
+returns-then-throughout-aim c = λ t inside.
+    let f = λ (p : Course). goes_before c.args.aim.now.target.now p c.args.o.now t in
+    too_many c.args.aim.now.k _ _ _ _ (omega arith) (c.courses.invariant.counted t inside) (counted_front f c.courses.p-index c.args.rivals.now.courses.now)
 
 pub courses-preserved : goal.courses-preserved
 courses-preserved c = record {
   few = omega (arith, c.courses.invariant.few, c.with_one-throughout.ensures, one_at_most c.in_ok-before.before);
   counted = λ t inside.
-      let f = λ (p : Course). goes_before c.args.target.now p c.args.o.now t in
+      let f = λ (p : Course). goes_before c.args.aim.now.target.now p c.args.o.now t in
       let so_far = c.courses.invariant.counted t inside in
       let more = c.in_ok-before.ensures t inside in
-      let counts = count_more f c.args.courses.now c.courses.p-index c.p-item.result (omega arith) c.p-item.is in
+      let counts = count_more f c.args.rivals.now.courses.now c.courses.p-index c.p-item.result (omega arith) c.p-item.is in
       let one = c.with_one-throughout.ensures in
       omega (arith, so_far, more, counts, one);
 }
 
 pub returns : goal.returns
 returns c = λ t inside.
-    let f = λ (p : Course). goes_before c.args.target.now p c.args.o.now t in
-    few_more c.args.k _ _ _ (c.courses.invariant.counted t inside ∙ ap (count_by f) (take_all c.courses.p-index c.args.courses.now (omega arith)))
+    let f = λ (p : Course). goes_before c.args.aim.now.target.now p c.args.o.now t in
+    few_more c.args.aim.now.k _ _ _ (c.courses.invariant.counted t inside ∙ ap (count_by f) (take_all c.courses.p-index c.args.rivals.now.courses.now (omega arith)))

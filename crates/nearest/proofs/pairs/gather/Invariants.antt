@@ -8,7 +8,7 @@ use Rattle.nearest.proofs.pairs.gather.Given as goal
 -- those that stand before the object throughout and the stretches tell how many of the first courses do so
 abbrev pub invariant-courses : goal.invariant-courses
 invariant-courses l = record {
-  few : l.throughout ≤ l.k;
+  few : l.throughout ≤ l.aim.k;
   counted : (t : ℕ) → within l.w.lo l.w.hi t ≡ true
-      → l.throughout + depth_at l.stretches.items t ≡ count_by (λ p. goes_before l.target p l.o t) (take l.p-index l.courses);
+      → l.throughout + depth_at l.stretches.items t ≡ count_by (λ p. goes_before l.aim.target.now p l.o t) (take l.p-index l.rivals.courses.now);
 }

@@ -19,9 +19,9 @@ pub objects-preserved : goal.objects-preserved
 objects-preserved c =
     let i = c.objects.o-index in
     let o = c.o-item.result in
-    let target = c.args.target.now in
+    let target = c.args.aim.now.target.now in
     let courses = c.args.courses.now in
-    let k = c.args.k in
+    let k = c.args.aim.now.k in
     let w = c.args.w in
     let found = c.in_ok-found.found.items in
     let count = c.in_ok-found.ensures.length in

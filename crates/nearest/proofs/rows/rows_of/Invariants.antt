@@ -3,4 +3,4 @@ use Rattle.nearest.specs.Rows.{rows_along, told_near}
 use Rattle.nearest.proofs.rows.rows_of.Given as goal
 
 abbrev pub invariant-objects : goal.invariant-objects
-invariant-objects l = told_near l.rows.items ≡ rows_along l.fn.target l.courses l.fn.k l.fn.w (take l.o-index l.courses)
+invariant-objects l = told_near l.rows.items ≡ rows_along l.fn.aim.target.now l.courses l.fn.aim.k l.fn.w (take l.o-index l.courses)

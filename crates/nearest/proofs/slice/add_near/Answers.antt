@@ -25,8 +25,8 @@ pub append_at-requires-clause-past : goal.append_at-requires-clause-past
 append_at-requires-clause-past c = λ t u had more.
     let i = c.objects.o-index in
     let courses = c.args.courses.now in
-    let target = c.args.target.now in
-    let k = c.args.k in
+    let target = c.args.aim.now.target.now in
+    let k = c.args.aim.now.k in
     let slice = c.args.slice in
     let o = c.o-item.result in
     let old = c.args.found.now.items in
@@ -47,8 +47,8 @@ pub objects-preserved : goal.objects-preserved
 objects-preserved c =
     let i = c.objects.o-index in
     let courses = c.args.courses.now in
-    let target = c.args.target.now in
-    let k = c.args.k in
+    let target = c.args.aim.now.target.now in
+    let k = c.args.aim.now.k in
     let slice = c.args.slice in
     let o = c.o-item.result in
     let old = c.args.found.now.items in
@@ -71,8 +71,8 @@ objects-preserved c =
 pub returns-clause-found : goal.returns-clause-found
 returns-clause-found c = λ n t below.
     let courses = c.args.courses.now in
-    let target = c.args.target.now in
-    let k = c.args.k in
+    let target = c.args.aim.now.target.now in
+    let k = c.args.aim.now.k in
     let slice = c.args.slice in
     let initial = spans_have (runs_at c.args.found.now.items n) t in
     c.objects.invariant.found n t below

@@ -11,5 +11,5 @@ invariant-objects l = record {
   count : length l.found.items ≡ length l.initial.found.items;
   found : (i t : ℕ) → i < length l.initial.found.items → spans_have (runs_at l.found.items i) t
       ≡ (spans_have (runs_at l.initial.found.items i) t
-      || (within l.slice.lo l.slice.hi t && index_near l.target l.courses l.k (take l.o-index l.courses) i t));
+      || (within l.slice.lo l.slice.hi t && index_near l.aim.target.now l.courses l.aim.k (take l.o-index l.courses) i t));
 }

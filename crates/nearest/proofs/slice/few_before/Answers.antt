@@ -5,7 +5,7 @@ use Rattle.nearest.proofs.slice.few_before.Goals as goal
 
 pub returns : goal.returns
 returns c =
-    few_ranked c.args.target.now c.args.courses.now c.args.o.now c.args.k c.saturating_sub.result c.args.slice c.deref.result.now c.in_ok-runs.runs.items
+    few_ranked c.args.aim.now.target.now c.args.rivals.now.courses.now c.args.o.now c.args.aim.now.k c.saturating_sub.result c.args.slice c.deref.result.now c.in_ok-runs.runs.items
     (λ t inside.
     ap (λ spans. nat_lt (depth_at spans t) c.saturating_sub.result) c.deref.ensures.value
     ∙ ap (λ left. nat_lt (depth_at c.gather.new.stretches.items t) left) c.saturating_sub.ensures

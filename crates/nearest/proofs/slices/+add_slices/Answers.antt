@@ -11,15 +11,15 @@ pub add_slice-requires : goal.add_slice-requires
 add_slice-requires t c =
     let n = length c.args.found.now.items in
     record {
-      seen = subst (λ (xs : List Course). All (IsSeenFrom c.args.target.now c.args.slice) xs) (sym c.deref.ensures.value) c.in_ok-few.ensures.seen;
+      seen = subst (λ (xs : List Course). All (IsSeenFrom c.args.aim.now.target.now c.args.slice) xs) (sym c.deref.ensures.value) c.in_ok-few.ensures.seen;
       ascending = subst (λ (xs : List Course). HaveAscendingIndexes 0 n xs) (sym c.deref.ensures.value) (c.in_ok-few.ensures.ascending n c.requires.ascending);
       before = c.requires.before;
     }
 
 pub returns-then-is_few-clause-found : goal.returns-then-is_few-clause-found
 returns-then-is_few-clause-found t c =
-    let from = c.args.target.now in
-    let k = c.args.k in
+    let from = c.args.aim.now.target.now in
+    let k = c.args.aim.now.k in
     let slice = c.args.slice in
     let few = c.in_ok-few.few.items in
     let old = c.args.found.now.items in
@@ -49,8 +49,8 @@ add_slices-requires t c =
 
 pub returns-then-reached-first-clause-found : goal.returns-then-reached-first-clause-found
 returns-then-reached-first-clause-found t c =
-    let from = c.args.target.now in
-    let k = c.args.k in
+    let from = c.args.aim.now.target.now in
+    let k = c.args.aim.now.k in
     let slice = c.args.slice in
     let few = c.in_ok-few.few.items in
     let old = c.args.found.now.items in
@@ -68,8 +68,8 @@ returns-then-reached-first-clause-found t c =
 
 pub add_slices-requires-2 : goal.add_slices-requires-2
 add_slices-requires-2 t c =
-    let from = c.args.target.now in
-    let k = c.args.k in
+    let from = c.args.aim.now.target.now in
+    let k = c.args.aim.now.k in
     let slice = c.args.slice in
     let few = c.in_ok-few.few.items in
     let old = c.args.found.now.items in
@@ -100,8 +100,8 @@ add_slices-requires-2 t c =
 
 pub returns-clause-found : goal.returns-clause-found
 returns-clause-found t c =
-    let from = c.args.target.now in
-    let k = c.args.k in
+    let from = c.args.aim.now.target.now in
+    let k = c.args.aim.now.k in
     let slice = c.args.slice in
     let few = c.in_ok-few.few.items in
     let old = c.args.found.now.items in

@@ -16,21 +16,21 @@ add_rest-requires-clause-ascending c =
 
 pub add_rest-requires-clause-before : goal.add_rest-requires-clause-before
 add_rest-requires-clause-before c =
-    all_before c.args.target.now c.args.courses.now c.args.k c.args.w.lo c.in_ok-until.until c.in_ok-found.found.items c.add_growing.new.found.items
+    all_before c.args.aim.now.target.now c.args.courses.now c.args.aim.now.k c.args.w.lo c.in_ok-until.until c.in_ok-found.found.items c.add_growing.new.found.items
     c.in_ok-until.ensures.length c.in_ok-until.ensures.bounds.0 (before_any c.args.w.lo c.in_ok-found.found.items c.in_ok-found.ensures.none) c.in_ok-until.ensures.found
 
 pub returns-then-w-until-clause-found : goal.returns-then-w-until-clause-found
 returns-then-w-until-clause-found c = λ i t below.
     let last = c.in_ok-until.ensures.bounds.1 in
     let length = c.in_ok-found.ensures.length in
-    all_found c.args.target.now c.args.courses.now c.args.k c.in_ok-until.until c.args.w c.in_ok-found.found.items c.add_growing.new.found.items
+    all_found c.args.aim.now.target.now c.args.courses.now c.args.aim.now.k c.in_ok-until.until c.args.w c.in_ok-found.found.items c.add_growing.new.found.items
     (omega (arith, last)) c.in_ok-found.ensures.none c.in_ok-until.ensures.found i t (omega (arith, below, length))
 
 pub returns-clause-found : goal.returns-clause-found
 returns-clause-found c = λ i t below.
-    let from = c.args.target.now in
+    let from = c.args.aim.now.target.now in
     let courses = c.args.courses.now in
-    let k = c.args.k in
+    let k = c.args.aim.now.k in
     let w = c.args.w in
     let until = c.in_ok-until.until in
     let none = c.in_ok-found.found.items in

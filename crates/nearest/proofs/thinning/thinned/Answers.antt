@@ -9,8 +9,8 @@ use Rattle.nearest.proofs.thinning.thinned.Goals as goal
 
 pub returns-clause-seen : goal.returns-clause-seen
 returns-clause-seen c =
-    subst (λ (few : List Course). All (IsSeenFrom c.args.target.now c.args.slice) few) (sym c.kept-few.ensures)
-    (All-filter (λ (x : Course). may_come_within c.in_ok-bound.bound x.sight) (IsSeenFrom c.args.target.now c.args.slice) c.in_ok-seen.seen.items c.in_ok-seen.ensures.seen)
+    subst (λ (few : List Course). All (IsSeenFrom c.args.aim.now.target.now c.args.slice) few) (sym c.kept-few.ensures)
+    (All-filter (λ (x : Course). may_come_within c.in_ok-bound.bound x.sight) (IsSeenFrom c.args.aim.now.target.now c.args.slice) c.in_ok-seen.seen.items c.in_ok-seen.ensures.seen)
 
 pub returns-clause-ascending : goal.returns-clause-ascending
 returns-clause-ascending c = λ n ascend.
@@ -21,8 +21,8 @@ returns-clause-ascending c = λ n ascend.
 pub returns-clause-enough : goal.returns-clause-enough
 returns-clause-enough c = λ i t begun up_to.
     let seen = c.in_ok-seen.seen.items in
-    let from = c.args.target.now in
-    let k = c.args.k in
+    let from = c.args.aim.now.target.now in
+    let k = c.args.aim.now.k in
     let enough : EnoughWithin k c.in_ok-bound.bound seen =
     subst (λ (xs : List Course). EnoughWithin k c.in_ok-bound.bound xs) c.deref.ensures.value c.in_ok-bound.ensures in
     ap (λ (few : List Course). index_near from few k few i t) c.kept-few.ensures
