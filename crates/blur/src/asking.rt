@@ -17,7 +17,7 @@ ghost use Rattle.worlds.specs.Moved.{Move, is_world};
 ghost use Rattle.blur.specs.Answered.{HoldsInEachWorld, holds_blurred, holds_moved, told_in};
 ghost use Rattle.steps.specs.Counting.{StepsAtMost};
 
-use crate::objects::BlurredWorld;
+use crate::objects::{BlurredWorld, Setting};
 use answers::{fitting_queries_can_be_asked, widened};
 use evaluator::full_rows;
 use formula::RQuery;
@@ -64,7 +64,8 @@ pub fn blurred<'d, L: Ledger, M: Ledger>(
     ensures reads { StepsAtMost reads.old reads.new (query_reads (domain_size d.now) (w.hi + 1 - w.lo) (resolved_view q.now)) }
 {
     worlds_lie_between();
-    let rows = rows_narrowed(alloc, q, d, world, w, reads, probes)?;
+    let setting = Setting { world, w };
+    let rows = rows_narrowed(alloc, q, d, &setting, reads, probes)?;
     Ok(rows)
 }
 
@@ -73,27 +74,27 @@ fn rows_narrowed<'d, L: Ledger, M: Ledger>(
     alloc: Global,
     q: &RQuery,
     d: &'d Domains,
-    world: &BlurredWorld,
-    w: Window,
+    setting: &Setting,
     reads: &mut Steps<L>,
     probes: &mut Steps<M>,
 ) -> Result<Relation<'d, IntervalSet>, AllocError>
-    requires accepted { IsOfAcceptedWrites world.now.store.now }
+    requires accepted { IsOfAcceptedWrites setting.now.world.now.store.now }
     requires resolved { IsResolved (resolved_view q.now) }
-    requires fits { FitsItsClasses (told_in world.now) (resolved_view q.now) }
-    requires domains { AreOfItsClasses (catalog_of world.now.store.now) (resolved_view q.now) d.now }
-    requires length { IsQueryWindow w }
-    ensures rows { IfOk result (AreRowsWhere spans_have d.now w.lo w.hi (between 0 (length q.now.classes))
-        (holds_blurred world.now (resolved_view q.now) w.hi)) }
-    ensures reads { StepsAtMost reads.old reads.new (query_reads (domain_size d.now) (w.hi + 1 - w.lo) (resolved_view q.now)) }
+    requires fits { FitsItsClasses (told_in setting.now.world.now) (resolved_view q.now) }
+    requires domains { AreOfItsClasses (catalog_of setting.now.world.now.store.now) (resolved_view q.now) d.now }
+    requires length { IsQueryWindow setting.now.w }
+    ensures rows { IfOk result (AreRowsWhere spans_have d.now setting.now.w.lo setting.now.w.hi (between 0 (length q.now.classes))
+        (holds_blurred setting.now.world.now (resolved_view q.now) setting.now.w.hi)) }
+    ensures reads { StepsAtMost reads.old reads.new (query_reads (domain_size d.now) (setting.now.w.hi + 1 - setting.now.w.lo) (resolved_view q.now)) }
 {
     worlds_lie_between();
+    let (world, w) = (setting.world, setting.w);
     let (store, regions, slack) = (world.store, world.regions, world.blur.slack());
     let Some(some) = narrowed_within(alloc, q, d, store, regions, slack, w)? else {
-        let rows = rows_of_all(alloc, q, d, world, w, reads, probes)?;
+        let rows = rows_of_all(alloc, q, d, setting, reads, probes)?;
         return Ok(rows);
     };
-    let rows = rows_of_all(alloc, q, &some, world, w, reads, probes)?;
+    let rows = rows_of_all(alloc, q, &some, setting, reads, probes)?;
     let made = widened(alloc, rows, d)?;
     Ok(made)
 }
@@ -103,21 +104,21 @@ fn rows_of_all<'d, L: Ledger, M: Ledger>(
     alloc: Global,
     q: &RQuery,
     d: &'d Domains,
-    world: &BlurredWorld,
-    w: Window,
+    setting: &Setting,
     reads: &mut Steps<L>,
     probes: &mut Steps<M>,
 ) -> Result<Relation<'d, IntervalSet>, AllocError>
-    requires accepted { IsOfAcceptedWrites world.now.store.now }
+    requires accepted { IsOfAcceptedWrites setting.now.world.now.store.now }
     requires resolved { IsResolved (resolved_view q.now) }
-    requires fits { FitsItsClasses (told_in world.now) (resolved_view q.now) }
-    requires domains { AreOfItsClasses (catalog_of world.now.store.now) (resolved_view q.now) d.now }
-    requires length { IsQueryWindow w }
-    ensures rows { IfOk result (AreRowsWhere spans_have d.now w.lo w.hi (between 0 (length q.now.classes))
-        (holds_blurred world.now (resolved_view q.now) w.hi)) }
-    ensures reads { StepsAtMost reads.old reads.new (query_reads (domain_size d.now) (w.hi + 1 - w.lo) (resolved_view q.now)) }
+    requires fits { FitsItsClasses (told_in setting.now.world.now) (resolved_view q.now) }
+    requires domains { AreOfItsClasses (catalog_of setting.now.world.now.store.now) (resolved_view q.now) d.now }
+    requires length { IsQueryWindow setting.now.w }
+    ensures rows { IfOk result (AreRowsWhere spans_have d.now setting.now.w.lo setting.now.w.hi (between 0 (length q.now.classes))
+        (holds_blurred setting.now.world.now (resolved_view q.now) setting.now.w.hi)) }
+    ensures reads { StepsAtMost reads.old reads.new (query_reads (domain_size d.now) (setting.now.w.hi + 1 - setting.now.w.lo) (resolved_view q.now)) }
 {
     fitting_queries_can_be_asked();
+    let (world, w) = (setting.world, setting.w);
     let rows = full_rows(alloc, world, q, d, w, reads, probes)?;
     Ok(rows)
 }

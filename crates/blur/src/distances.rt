@@ -11,7 +11,7 @@ ghost use Rattle.blur.specs.Asked.{comparison, compares_by, square_if_small};
 ghost use Rattle.blur.specs.Bounds.{bound_after};
 
 use crate::bounds::SquareBound;
-use crate::question::Blur;
+use crate::question::{Blur, Comparison};
 use crate::runs::{add_others, add_without};
 use case_table::Op;
 use convex::at_most;
@@ -27,8 +27,7 @@ pub fn add_apart(
     runs: &mut Runs,
     from: &Line,
     to: &Line,
-    op: Op,
-    c: Fix,
+    compared: &Comparison,
     blur: Blur,
     w: Window,
 ) -> Result<(), AllocError>
@@ -36,17 +35,17 @@ pub fn add_apart(
     requires from_in_reach { IsInReach from.now }
     requires to_in_reach { IsInReach to.now }
     ensures { OnOk result (Adds (λ t. within w.lo w.hi t
-        && distance_compares_by (comparison blur.sure) op c
+        && distance_compares_by (comparison blur.sure) compared.now.op compared.now.c
         (nearest_square blur.error (position_after from.now (t - w.lo)) (position_after to.now (t - w.lo)))
         (farthest_square blur.error (position_after from.now (t - w.lo)) (position_after to.now (t - w.lo))))
         runs.old runs.new) }
 {
-    if c.raw() < 0 {
-        return runs.append(everywhere(op.holds(1), w));
+    if compared.c.raw() < 0 {
+        return runs.append(everywhere(compared.op.holds(1), w));
     }
     let small = small_by(from, to, blur);
     let large = small_by(from, to, blur.turned());
-    add_compared(runs, &small, &large, op, squared(c), w)
+    add_compared(runs, &small, &large, compared.op, squared(compared.c), w)
 }
 
 // The bound by which a distance is told to be small.

@@ -10,9 +10,7 @@ ghost use Rattle.worlds.specs.Blurred.{distance_holds_by};
 ghost use Rattle.blur.specs.Asked.{comparison, is_on_side};
 
 use crate::parts::{distance_runs, region_runs};
-use crate::question::Blur;
-use case_table::Op;
-use fixed_point::Fix;
+use crate::question::{Blur, Comparison, Side};
 use interval_set::IntervalSet;
 use object_store::{ObjectId, Store};
 use polygon::Regions;
@@ -29,25 +27,31 @@ pub struct BlurredWorld<'a> {
     pub blur: Blur,
 }
 
+/// A world, and the window of ticks that is asked of it.
+#[derive(Clone, Copy)]
+pub struct Setting<'a> {
+    pub world: &'a BlurredWorld<'a>,
+    pub w: Window,
+}
+
 /// The ticks of the window at which an object is in the region of a number, or has a position that isn't in it, surely or
 /// possibly. It takes one step of `reads`, and fails only where memory is out.
 pub fn region_ticks<L: Ledger>(
     alloc: Global,
     id: ObjectId,
-    inside: bool,
-    n: u32,
-    world: &BlurredWorld,
-    w: Window,
+    side: Side,
+    setting: &Setting,
     reads: &mut Steps<L>,
 ) -> Result<IntervalSet, AllocError>
-    requires { IsObjectId world.now.store.now id }
-    ensures ticks { IfOk result (λ s. (t : ℕ) → spans_have s t ≡ (within w.lo w.hi t
-        && option_map_or (is_on_side inside world.now.blur.sure world.now.blur.error world.now.regions.now n)
-        (position_in t (cells_at (history_of world.now.store.now) id t)) false)) }
+    requires { IsObjectId setting.now.world.now.store.now id }
+    ensures ticks { IfOk result (λ s. (t : ℕ) → spans_have s t ≡ (within setting.now.w.lo setting.now.w.hi t
+        && option_map_or (is_on_side side.inside setting.now.world.now.blur.sure setting.now.world.now.blur.error setting.now.world.now.regions.now side.n)
+        (position_in t (cells_at (history_of setting.now.world.now.store.now) id t)) false)) }
     ensures step { reads.new ≡ reads.old + 1 }
 {
+    let world = setting.world;
     let course = world.store.timeline(id, reads);
-    let runs = region_runs(alloc, course, inside, n, world.blur, world.regions, w)?;
+    let runs = region_runs(alloc, course, side, world.blur, world.regions, setting.w)?;
     Ok(IntervalSet::from_runs(runs))
 }
 
@@ -58,24 +62,22 @@ pub fn distance_ticks<L: Ledger>(
     alloc: Global,
     first: ObjectId,
     second: ObjectId,
-    op: Op,
-    c: Fix,
-    world: &BlurredWorld,
-    w: Window,
+    compared: &Comparison,
+    setting: &Setting,
     reads: &mut Steps<L>,
 ) -> Result<IntervalSet, AllocError>
-    requires first { IsObjectId world.now.store.now first }
-    requires second { IsObjectId world.now.store.now second }
-    ensures ticks { IfOk result (λ s. (t : ℕ) → spans_have s t ≡ (within w.lo w.hi t
-        && distance_holds_by (comparison world.now.blur.sure) (if first == second then 0 else world.now.blur.error) op c
-        (position_in t (cells_at (history_of world.now.store.now) first t))
-        (position_in t (cells_at (history_of world.now.store.now) second t)))) }
+    requires first { IsObjectId setting.now.world.now.store.now first }
+    requires second { IsObjectId setting.now.world.now.store.now second }
+    ensures ticks { IfOk result (λ s. (t : ℕ) → spans_have s t ≡ (within setting.now.w.lo setting.now.w.hi t
+        && distance_holds_by (comparison setting.now.world.now.blur.sure) (if first == second then 0 else setting.now.world.now.blur.error) compared.now.op compared.now.c
+        (position_in t (cells_at (history_of setting.now.world.now.store.now) first t))
+        (position_in t (cells_at (history_of setting.now.world.now.store.now) second t)))) }
     ensures step { reads.new ≡ reads.old + (if first == second then 1 else 2) }
 {
     if first == second {
-        itself_ticks(alloc, first, op, c, world, w, reads)
+        itself_ticks(alloc, first, compared, setting, reads)
     } else {
-        apart_ticks(alloc, first, second, op, c, world, w, reads)
+        apart_ticks(alloc, first, second, compared, setting, reads)
     }
 }
 
@@ -83,22 +85,21 @@ pub fn distance_ticks<L: Ledger>(
 fn itself_ticks<L: Ledger>(
     alloc: Global,
     id: ObjectId,
-    op: Op,
-    c: Fix,
-    world: &BlurredWorld,
-    w: Window,
+    compared: &Comparison,
+    setting: &Setting,
     reads: &mut Steps<L>,
 ) -> Result<IntervalSet, AllocError>
-    requires { IsObjectId world.now.store.now id }
-    ensures ticks { IfOk result (λ s. (t : ℕ) → spans_have s t ≡ (within w.lo w.hi t
-        && distance_holds_by (comparison world.now.blur.sure) 0 op c
-        (position_in t (cells_at (history_of world.now.store.now) id t))
-        (position_in t (cells_at (history_of world.now.store.now) id t)))) }
+    requires { IsObjectId setting.now.world.now.store.now id }
+    ensures ticks { IfOk result (λ s. (t : ℕ) → spans_have s t ≡ (within setting.now.w.lo setting.now.w.hi t
+        && distance_holds_by (comparison setting.now.world.now.blur.sure) 0 compared.now.op compared.now.c
+        (position_in t (cells_at (history_of setting.now.world.now.store.now) id t))
+        (position_in t (cells_at (history_of setting.now.world.now.store.now) id t)))) }
     ensures step { reads.new ≡ reads.old + 1 }
 {
+    let world = setting.world;
     let course = world.store.timeline(id, reads);
     let exact = world.blur.exact();
-    let runs = distance_runs(alloc, course, course, op, c, exact, w)?;
+    let runs = distance_runs(alloc, course, course, compared, exact, setting.w)?;
     Ok(IntervalSet::from_runs(runs))
 }
 
@@ -107,22 +108,21 @@ fn apart_ticks<L: Ledger>(
     alloc: Global,
     first: ObjectId,
     second: ObjectId,
-    op: Op,
-    c: Fix,
-    world: &BlurredWorld,
-    w: Window,
+    compared: &Comparison,
+    setting: &Setting,
     reads: &mut Steps<L>,
 ) -> Result<IntervalSet, AllocError>
-    requires first { IsObjectId world.now.store.now first }
-    requires second { IsObjectId world.now.store.now second }
-    ensures ticks { IfOk result (λ s. (t : ℕ) → spans_have s t ≡ (within w.lo w.hi t
-        && distance_holds_by (comparison world.now.blur.sure) world.now.blur.error op c
-        (position_in t (cells_at (history_of world.now.store.now) first t))
-        (position_in t (cells_at (history_of world.now.store.now) second t)))) }
+    requires first { IsObjectId setting.now.world.now.store.now first }
+    requires second { IsObjectId setting.now.world.now.store.now second }
+    ensures ticks { IfOk result (λ s. (t : ℕ) → spans_have s t ≡ (within setting.now.w.lo setting.now.w.hi t
+        && distance_holds_by (comparison setting.now.world.now.blur.sure) setting.now.world.now.blur.error compared.now.op compared.now.c
+        (position_in t (cells_at (history_of setting.now.world.now.store.now) first t))
+        (position_in t (cells_at (history_of setting.now.world.now.store.now) second t)))) }
     ensures step { reads.new ≡ reads.old + 2 }
 {
+    let world = setting.world;
     let from = world.store.timeline(first, reads);
     let to = world.store.timeline(second, reads);
-    let runs = distance_runs(alloc, from, to, op, c, world.blur, w)?;
+    let runs = distance_runs(alloc, from, to, compared, world.blur, setting.w)?;
     Ok(IntervalSet::from_runs(runs))
 }

@@ -14,10 +14,8 @@ ghost use Rattle.blur.specs.Parts.{MovesAlong};
 
 use crate::distances::add_apart;
 use crate::insides::{add_inside, add_outside};
-use crate::question::Blur;
-use case_table::Op;
+use crate::question::{Blur, Comparison, Side};
 use courses::{Common, common_from, line_from, straight_line};
-use fixed_point::Fix;
 use linear_crossing::Line;
 use motion::Timeline;
 use polygon::Regions;
@@ -29,21 +27,20 @@ use tick_set::{Runs, Span, Window};
 pub fn region_runs(
     alloc: Global,
     timeline: &Timeline,
-    inside: bool,
-    n: u32,
+    side: Side,
     blur: Blur,
     regions: &Regions,
     w: Window,
 ) -> Result<Vec<Span>, AllocError>
     ensures { IfOk result (λ runs. IsRuns (λ t. within w.lo w.hi t
-        && option_map_or (is_on_side inside blur.sure blur.error regions.now n) (place_at timeline.now t) false) runs.items) }
+        && option_map_or (is_on_side side.inside blur.sure blur.error regions.now side.n) (place_at timeline.now t) false) runs.items) }
 {
     let timelines = [timeline];
     let mut runs = Runs::new(alloc);
     let mut at = w.lo;
     'joining: while at <= w.hi {
         let common = common_from(&timelines, at, w.hi);
-        add_region_part(&mut runs, &common, inside, n, blur, regions)?;
+        add_region_part(&mut runs, &common, side, blur, regions)?;
         at = common.span.hi + 1;
     }
     Ok(runs.finish())
@@ -55,17 +52,16 @@ pub fn distance_runs(
     alloc: Global,
     from: &Timeline,
     to: &Timeline,
-    op: Op,
-    c: Fix,
+    compared: &Comparison,
     blur: Blur,
     w: Window,
 ) -> Result<Vec<Span>, AllocError>
     ensures { IfOk result (λ runs. IsRuns (λ t. within w.lo w.hi t
-        && distance_holds_by (comparison blur.sure) blur.error op c (place_at from.now t) (place_at to.now t)) runs.items) }
+        && distance_holds_by (comparison blur.sure) blur.error compared.now.op compared.now.c (place_at from.now t) (place_at to.now t)) runs.items) }
 {
     match straight_lines(from, to, w.span()) {
-        Some((first, second)) => runs_along(alloc, &first, &second, op, c, blur, w),
-        None => runs_by_parts(alloc, from, to, op, c, blur, w),
+        Some((first, second)) => runs_along(alloc, &first, &second, compared, blur, w),
+        None => runs_by_parts(alloc, from, to, compared, blur, w),
     }
 }
 
@@ -85,19 +81,18 @@ fn runs_along(
     alloc: Global,
     from: &Line,
     to: &Line,
-    op: Op,
-    c: Fix,
+    compared: &Comparison,
     blur: Blur,
     w: Window,
 ) -> Result<Vec<Span>, AllocError>
     requires from_in_reach { IsInReach from.now }
     requires to_in_reach { IsInReach to.now }
     ensures { IfOk result (λ runs. IsRuns (λ t. within w.lo w.hi t
-        && distance_holds_by (comparison blur.sure) blur.error op c
+        && distance_holds_by (comparison blur.sure) blur.error compared.now.op compared.now.c
         (Some (position_after from.now (t - w.lo))) (Some (position_after to.now (t - w.lo)))) runs.items) }
 {
     let mut runs = Runs::new(alloc);
-    add_apart(&mut runs, from, to, op, c, blur, w)?;
+    add_apart(&mut runs, from, to, compared, blur, w)?;
     Ok(runs.finish())
 }
 
@@ -106,20 +101,19 @@ fn runs_by_parts(
     alloc: Global,
     from: &Timeline,
     to: &Timeline,
-    op: Op,
-    c: Fix,
+    compared: &Comparison,
     blur: Blur,
     w: Window,
 ) -> Result<Vec<Span>, AllocError>
     ensures { IfOk result (λ runs. IsRuns (λ t. within w.lo w.hi t
-        && distance_holds_by (comparison blur.sure) blur.error op c (place_at from.now t) (place_at to.now t)) runs.items) }
+        && distance_holds_by (comparison blur.sure) blur.error compared.now.op compared.now.c (place_at from.now t) (place_at to.now t)) runs.items) }
 {
     let timelines = [from, to];
     let mut runs = Runs::new(alloc);
     let mut at = w.lo;
     'joining: while at <= w.hi {
         let common = common_from(&timelines, at, w.hi);
-        add_distance_part(&mut runs, &common, op, c, blur)?;
+        add_distance_part(&mut runs, &common, compared, blur)?;
         at = common.span.hi + 1;
     }
     Ok(runs.finish())
@@ -129,19 +123,18 @@ fn runs_by_parts(
 fn add_region_part(
     runs: &mut Runs,
     common: &Common,
-    inside: bool,
-    n: u32,
+    side: Side,
     blur: Blur,
     regions: &Regions,
 ) -> Result<(), AllocError>
     requires steady { IsSteadyPart common.now }
     requires before { EndBefore common.now.span.lo runs.old }
     ensures { OnOk result (Adds (λ t. within common.now.span.lo common.now.span.hi t
-        && option_map_or (is_on_side inside blur.sure blur.error regions.now n) (place_in common.now 0 t) false)
+        && option_map_or (is_on_side side.inside blur.sure blur.error regions.now side.n) (place_in common.now 0 t) false)
         runs.old runs.new) }
 {
     match line_in(common, 0) {
-        Some(line) => add_side(runs, &line, inside, n, blur, regions, common.span.window()),
+        Some(line) => add_side(runs, &line, side, blur, regions, common.span.window()),
         None => Ok(()),
     }
 }
@@ -150,20 +143,19 @@ fn add_region_part(
 fn add_side(
     runs: &mut Runs,
     line: &Line,
-    inside: bool,
-    n: u32,
+    side: Side,
     blur: Blur,
     regions: &Regions,
     w: Window,
 ) -> Result<(), AllocError>
     requires { EndBefore w.lo runs.old }
     ensures { OnOk result (Adds (λ t. within w.lo w.hi t
-        && is_on_side inside blur.sure blur.error regions.now n (position_after line.now (t - w.lo))) runs.old runs.new) }
+        && is_on_side side.inside blur.sure blur.error regions.now side.n (position_after line.now (t - w.lo))) runs.old runs.new) }
 {
-    if inside {
-        add_inside(runs, line, n, blur, regions, w)
+    if side.inside {
+        add_inside(runs, line, side.n, blur, regions, w)
     } else {
-        add_outside(runs, line, n, blur, regions, w)
+        add_outside(runs, line, side.n, blur, regions, w)
     }
 }
 
@@ -171,19 +163,18 @@ fn add_side(
 fn add_distance_part(
     runs: &mut Runs,
     common: &Common,
-    op: Op,
-    c: Fix,
+    compared: &Comparison,
     blur: Blur,
 ) -> Result<(), AllocError>
     requires steady { IsSteadyPart common.now }
     requires before { EndBefore common.now.span.lo runs.old }
     ensures { OnOk result (Adds (λ t. within common.now.span.lo common.now.span.hi t
-        && distance_holds_by (comparison blur.sure) blur.error op c (place_in common.now 0 t) (place_in common.now 1 t))
+        && distance_holds_by (comparison blur.sure) blur.error compared.now.op compared.now.c (place_in common.now 0 t) (place_in common.now 1 t))
         runs.old runs.new) }
 {
     match line_in(common, 0) {
         Some(from) => match line_in(common, 1) {
-            Some(to) => add_apart(runs, &from, &to, op, c, blur, common.span.window()),
+            Some(to) => add_apart(runs, &from, &to, compared, blur, common.span.window()),
             None => Ok(()),
         },
         None => Ok(()),

@@ -2,6 +2,7 @@
 ghost use Rattle.std.specs.Prelude.{◌≡◌, not, pos};
 ghost use Rattle.blur.specs.Asked.{margin_of, slack_of};
 
+use case_table::Op;
 use fixed_point::{Fix, Slope};
 use polygon::Margin;
 
@@ -12,6 +13,20 @@ pub struct Blur {
     pub sure: bool,
     /// The most that a position may be off by along each axis, in thousandths.
     pub error: u32,
+}
+
+/// A comparison with a number of thousandths.
+#[derive(Clone, Copy)]
+pub struct Comparison {
+    pub op: Op,
+    pub c: Fix,
+}
+
+/// Inside the region of a number, or outside.
+#[derive(Clone, Copy)]
+pub struct Side {
+    pub inside: bool,
+    pub n: u32,
 }
 
 impl Blur {

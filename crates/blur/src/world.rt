@@ -1,24 +1,21 @@
 //! What a store and its regions tell of atoms, of terms and of the presence of objects, where positions may be off.
-ghost use Rattle.std.specs.Prelude.{◌≡◌, ◌<◌, ◌&&◌, ℕ, IfOk, is_some, length, slice_index};
+ghost use Rattle.std.specs.Prelude.{◌≡◌, ◌<◌, is_some, length, slice_index};
 ghost use Rattle.std.proofs.Common.{ap};
 ghost use Rattle.atoms.specs.Asked.{CanAskAtom, CanAskTerm, world_in};
 ghost use Rattle.history.specs.History.{cells_at};
 ghost use Rattle.interpreting.proofs.FewerLemmas.{not_after, shorter};
 ghost use Rattle.interpreting.proofs.NameLemmas.{atom_by_names, term_by_names};
 ghost use Rattle.meaning.proofs.LocalityLemmas.{term_same};
-ghost use Rattle.meaning.specs.Reads.{atom_variables};
 ghost use Rattle.meaning.specs.Trace.{trace_of};
 ghost use Rattle.tick_set.specs.declared.spans.TheConstants.{SPAN_LIMIT};
 ghost use Rattle.object_store.specs.Contents.{history_of};
-ghost use Rattle.tick_set.specs.Runs.{spans_have};
-ghost use Rattle.tick_set.specs.Ticks.{within};
 ghost use Rattle.worlds.proofs.CallerLemmas.{blurred_sees};
 ghost use Rattle.blur.specs.Named.{blurred_alike};
 ghost use Rattle.blur.specs.World.{blurred_by};
 ghost use Rattle.exact.proofs.Naturals.{at_most_in_turn};
-ghost use Rattle.steps.specs.Counting.{StepsAtMost};
 
-use crate::objects::{BlurredWorld, distance_ticks, region_ticks};
+use crate::objects::{BlurredWorld, Setting, distance_ticks, region_ticks};
+use crate::question::{Comparison, Side};
 use atoms::{absence, atom_ticks, value_runs};
 use formula::{Binding, Env, RAtom, RTerm};
 use interpreting::{Interpreter, ValueRun};
@@ -50,7 +47,36 @@ impl Interpreter<IntervalSet> for BlurredWorld<'_> {
         reads: &mut Steps<L>,
         probes: &mut Steps<M>,
     ) -> Result<IntervalSet, AllocError> {
-        blurred_ticks(alloc, atom, binding, env, self, w, reads, probes)
+        let setting = Setting { world: self, w };
+        match atom {
+            RAtom::Inside(v, n) => {
+                let side = Side {
+                    inside: true,
+                    n: *n,
+                };
+                region_ticks(alloc, object_of(binding, *v), side, &setting, reads)
+            }
+            RAtom::Outside(v, n) => {
+                let side = Side {
+                    inside: false,
+                    n: *n,
+                };
+                region_ticks(alloc, object_of(binding, *v), side, &setting, reads)
+            }
+            RAtom::Dist(v, u, op, c) => {
+                let first = object_of(binding, *v);
+                let second = object_of(binding, *u);
+                let compared = Comparison { op: *op, c: *c };
+                distance_ticks(alloc, first, second, &compared, &setting, reads)
+            }
+            RAtom::Compare(_, _, _) | RAtom::Sphere(_, _) => {
+                let (store, regions) = (self.store, self.regions);
+                let ticks = atom_ticks(
+                    alloc, atom, binding, env, store, regions, w, reads, probes,
+                )?;
+                Ok(ticks)
+            }
+        }
     }
 
     fn runs<L: Ledger>(
@@ -102,54 +128,6 @@ impl Interpreter<IntervalSet> for BlurredWorld<'_> {
       objects = can.objects;
       in_range = λ t after before. can.in_range t (at_most_in_turn lo from t begins after) (not_after hi upto t ends before);
     } };
-}
-
-// The ticks of the window at which an atom holds of the objects of a binding, surely or possibly.
-fn blurred_ticks<L: Ledger, M: Ledger>(
-    alloc: Global,
-    atom: &RAtom,
-    binding: &Binding,
-    env: &Env,
-    world: &BlurredWorld,
-    w: Window,
-    reads: &mut Steps<L>,
-    probes: &mut Steps<M>,
-) -> Result<IntervalSet, AllocError>
-    requires { CanAskAtom world.now.store.now w.lo w.hi (slice_index binding.now) atom.now }
-    ensures ticks { IfOk result (λ s. (t : ℕ) → spans_have s t ≡ (within w.lo w.hi t
-        && (blurred_by world.now.blur world.now.store.now world.now.regions.now (slice_index binding.now)).atom atom.now env.now t)) }
-    ensures reads { StepsAtMost reads.old reads.new (length (atom_variables atom.now)) }
-{
-    match atom {
-        RAtom::Inside(v, n) => region_ticks(
-            alloc,
-            object_of(binding, *v),
-            true,
-            *n,
-            world,
-            w,
-            reads,
-        ),
-        RAtom::Outside(v, n) => region_ticks(
-            alloc,
-            object_of(binding, *v),
-            false,
-            *n,
-            world,
-            w,
-            reads,
-        ),
-        RAtom::Dist(v, u, op, c) => {
-            let first = object_of(binding, *v);
-            let second = object_of(binding, *u);
-            distance_ticks(alloc, first, second, *op, *c, world, w, reads)
-        }
-        RAtom::Compare(_, _, _) | RAtom::Sphere(_, _) => {
-            let (store, regions) = (world.store, world.regions);
-            let ticks = atom_ticks(alloc, atom, binding, env, store, regions, w, reads, probes)?;
-            Ok(ticks)
-        }
-    }
 }
 
 // The object of a variable in a binding, 0 past its end.

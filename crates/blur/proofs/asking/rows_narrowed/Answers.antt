@@ -14,10 +14,10 @@ use Rattle.blur.proofs.asking.rows_narrowed.Goals as goal
 
 pub returns-clause-rows : goal.returns-clause-rows
 returns-clause-rows g c =
-    let x = c.args.world.now in
+    let x = c.args.setting.now.world.now in
     let s = x.store.now in
     let q = resolved_view c.args.q.now in
-    let w = c.args.w in
+    let w = c.args.setting.now.w in
     let suffice : SufficeWithin (slack_of x.blur.sure x.blur.error) s x.regions.now q w.lo w.hi c.args.d.now c.in-Some.some =
     subst (λ error. SufficeWithin error s x.regions.now q w.lo w.hi c.args.d.now c.in-Some.some) c.slack-slack.ensures
     (subst (λ found. IfSome found (λ some. SufficeWithin c.slack-slack.result s x.regions.now q w.lo w.hi c.args.d.now some)) c.in-Some.is c.in_ok-some.ensures) in
@@ -36,26 +36,26 @@ returns-clause-rows g c =
 pub returns-clause-reads : goal.returns-clause-reads
 returns-clause-reads g c = record {
   least = omega arith;
-  most = (let suffice : SufficeWithin c.slack-slack.result c.args.world.now.store.now c.args.world.now.regions.now (resolved_view c.args.q.now) c.args.w.lo c.args.w.hi c.args.d.now c.in-Some.some =
-      subst (λ found. IfSome found (λ some. SufficeWithin c.slack-slack.result c.args.world.now.store.now c.args.world.now.regions.now (resolved_view c.args.q.now) c.args.w.lo c.args.w.hi c.args.d.now some)) c.in-Some.is c.in_ok-some.ensures in
+  most = (let suffice : SufficeWithin c.slack-slack.result c.args.setting.now.world.now.store.now c.args.setting.now.world.now.regions.now (resolved_view c.args.q.now) c.args.setting.now.w.lo c.args.setting.now.w.hi c.args.d.now c.in-Some.some =
+      subst (λ found. IfSome found (λ some. SufficeWithin c.slack-slack.result c.args.setting.now.world.now.store.now c.args.setting.now.world.now.regions.now (resolved_view c.args.q.now) c.args.setting.now.w.lo c.args.setting.now.w.hi c.args.d.now some)) c.in-Some.is c.in_ok-some.ensures in
       fewer_reads (resolved_view c.args.q.now) c.args.d.now c.in-Some.some suffice.fewer
-      (c.args.w.hi + 1 - c.args.w.lo) _ _ c.in_ok-rows-2.ensures.reads.most);
+      (c.args.setting.now.w.hi + 1 - c.args.setting.now.w.lo) _ _ c.in_ok-rows-2.ensures.reads.most);
 }
 
 pub returns-in_err-made-clause-reads : goal.returns-in_err-made-clause-reads
 returns-in_err-made-clause-reads g c = record {
   least = omega arith;
-  most = (let suffice : SufficeWithin c.slack-slack.result c.args.world.now.store.now c.args.world.now.regions.now (resolved_view c.args.q.now) c.args.w.lo c.args.w.hi c.args.d.now c.in-Some.some =
-      subst (λ found. IfSome found (λ some. SufficeWithin c.slack-slack.result c.args.world.now.store.now c.args.world.now.regions.now (resolved_view c.args.q.now) c.args.w.lo c.args.w.hi c.args.d.now some)) c.in-Some.is c.in_ok-some.ensures in
+  most = (let suffice : SufficeWithin c.slack-slack.result c.args.setting.now.world.now.store.now c.args.setting.now.world.now.regions.now (resolved_view c.args.q.now) c.args.setting.now.w.lo c.args.setting.now.w.hi c.args.d.now c.in-Some.some =
+      subst (λ found. IfSome found (λ some. SufficeWithin c.slack-slack.result c.args.setting.now.world.now.store.now c.args.setting.now.world.now.regions.now (resolved_view c.args.q.now) c.args.setting.now.w.lo c.args.setting.now.w.hi c.args.d.now some)) c.in-Some.is c.in_ok-some.ensures in
       fewer_reads (resolved_view c.args.q.now) c.args.d.now c.in-Some.some suffice.fewer
-      (c.args.w.hi + 1 - c.args.w.lo) _ _ c.in_ok-rows-2.ensures.reads.most);
+      (c.args.setting.now.w.hi + 1 - c.args.setting.now.w.lo) _ _ c.in_ok-rows-2.ensures.reads.most);
 }
 
 pub returns-in_err-rows-2-clause-reads : goal.returns-in_err-rows-2-clause-reads
 returns-in_err-rows-2-clause-reads g c = record {
   least = omega arith;
-  most = (let suffice : SufficeWithin c.slack-slack.result c.args.world.now.store.now c.args.world.now.regions.now (resolved_view c.args.q.now) c.args.w.lo c.args.w.hi c.args.d.now c.in-Some.some =
-      subst (λ found. IfSome found (λ some. SufficeWithin c.slack-slack.result c.args.world.now.store.now c.args.world.now.regions.now (resolved_view c.args.q.now) c.args.w.lo c.args.w.hi c.args.d.now some)) c.in-Some.is c.in_ok-some.ensures in
+  most = (let suffice : SufficeWithin c.slack-slack.result c.args.setting.now.world.now.store.now c.args.setting.now.world.now.regions.now (resolved_view c.args.q.now) c.args.setting.now.w.lo c.args.setting.now.w.hi c.args.d.now c.in-Some.some =
+      subst (λ found. IfSome found (λ some. SufficeWithin c.slack-slack.result c.args.setting.now.world.now.store.now c.args.setting.now.world.now.regions.now (resolved_view c.args.q.now) c.args.setting.now.w.lo c.args.setting.now.w.hi c.args.d.now some)) c.in-Some.is c.in_ok-some.ensures in
       fewer_reads (resolved_view c.args.q.now) c.args.d.now c.in-Some.some suffice.fewer
-      (c.args.w.hi + 1 - c.args.w.lo) _ _ c.in_err-rows-2.ensures.reads.most);
+      (c.args.setting.now.w.hi + 1 - c.args.setting.now.w.lo) _ _ c.in_err-rows-2.ensures.reads.most);
 }

@@ -14,9 +14,9 @@ full_rows-requires-clause-over g c =
 
 pub full_rows-requires-clause-can : goal.full_rows-requires-clause-can
 full_rows-requires-clause-can g c =
-    let world = c.args.world.now in
+    let world = c.args.setting.now.world.now in
     let s = world.store.now in
-    let w = c.args.w in
+    let w = c.args.setting.now.w in
     asked_alike (told_by s world.regions.now) (blurred_by world.blur s world.regions.now) (λ b q x t. refl)
     (λ b a x. CanAskAtom s w.lo w.hi b a) (λ b p x. CanAskTerm s w.lo w.hi b p x) c.args.d.now w.lo w.hi (formula_view c.args.q.now.formula) no_values
     (c.fitting_queries_can_be_asked.ensures.asked s world.regions.now (resolved_view c.args.q.now) c.args.d.now w.lo w.hi
@@ -24,4 +24,4 @@ full_rows-requires-clause-can g c =
 
 pub full_rows-requires-clause-objects : goal.full_rows-requires-clause-objects
 full_rows-requires-clause-objects g c =
-    c.fitting_queries_can_be_asked.ensures.objects c.args.world.now.store.now (resolved_view c.args.q.now) c.args.d.now c.requires.domains
+    c.fitting_queries_can_be_asked.ensures.objects c.args.setting.now.world.now.store.now (resolved_view c.args.q.now) c.args.d.now c.requires.domains

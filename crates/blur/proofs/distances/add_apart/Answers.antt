@@ -31,19 +31,19 @@ returns c =
     let to = λ (t : ℕ). position_after c.args.to.now (t - w.lo) in
     let sure = c.args.blur.sure in
     let error = c.args.blur.error in
-    let op = c.args.op in
+    let op = c.args.compared.now.op in
     let old = c.args.runs.now in
     let new = c.add_compared.new.runs in
     let x : ℤ = to_z w128 (of_z w128 c.squared.result) in
-    let squared : x ≡ c.args.c *ℤ c.args.c = grind (arith, steps) in
-    let positive : int_le (pos 0) c.args.c ≡ true = grind (arith, ints, nat_tests) in
+    let squared : x ≡ c.args.compared.now.c *ℤ c.args.compared.now.c = grind (arith, steps) in
+    let positive : int_le (pos 0) c.args.compared.now.c ≡ true = grind (arith, ints, nat_tests) in
     let found : ℕ → Bool = λ t. within w.lo w.hi t && compares_by op (bound_after c.small_by-small.result (t - w.lo)) (bound_after c.small_by-large.result (t - w.lo)) x in
-    let test : ℕ → Bool = λ t. within w.lo w.hi t && distance_compares_by (comparison sure) op c.args.c (nearest_square error (from t) (to t)) (farthest_square error (from t) (to t)) in
+    let test : ℕ → Bool = λ t. within w.lo w.hi t && distance_compares_by (comparison sure) op c.args.compared.now.c (nearest_square error (from t) (to t)) (farthest_square error (from t) (to t)) in
     on_ok c.add_compared.result (Adds found old new) (Adds test old new)
     (adds_as found test old new
     (λ t.
     ap (λ b. within w.lo w.hi t && b)
-    (compared_is sure c.turned.result.sure op error c.turned.result.error c.args.c (from t) (to t) (bound_after c.small_by-small.result (t - w.lo))
+    (compared_is sure c.turned.result.sure op error c.turned.result.error c.args.compared.now.c (from t) (to t) (bound_after c.small_by-small.result (t - w.lo))
     (bound_after c.small_by-large.result (t - w.lo)) x (c.small_by-small.ensures (t - w.lo)) (c.small_by-large.ensures (t - w.lo))
     c.turned.ensures.sure c.turned.ensures.error squared positive)))
     c.add_compared.ensures

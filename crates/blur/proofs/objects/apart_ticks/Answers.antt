@@ -10,10 +10,10 @@ use Rattle.blur.proofs.objects.apart_ticks.Goals as goal
 
 pub returns-clause-ticks : goal.returns-clause-ticks
 returns-clause-ticks g c = λ t.
-    let w = c.args.w in
-    let world = c.args.world.now in
+    let w = c.args.setting.now.w in
+    let world = c.args.setting.now.world.now in
     let h = history_of world.store.now in
-    let holds = distance_holds_by (comparison world.blur.sure) world.blur.error c.args.op c.args.c in
+    let holds = distance_holds_by (comparison world.blur.sure) world.blur.error c.args.compared.now.op c.args.compared.now.c in
     let from = place_by_cells c.timeline-from.result.now (cells_at h c.args.first t) t (c.timeline-from.ensures.state t) in
     let to = place_by_cells c.timeline-to.result.now (cells_at h c.args.second t) t (c.timeline-to.ensures.state t) in
     ap (λ spans. spans_have spans t) c.from_runs.ensures

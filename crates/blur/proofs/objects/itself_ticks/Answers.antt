@@ -10,11 +10,11 @@ use Rattle.blur.proofs.objects.itself_ticks.Goals as goal
 
 pub returns-clause-ticks : goal.returns-clause-ticks
 returns-clause-ticks g c = λ t.
-    let w = c.args.w in
-    let world = c.args.world.now in
+    let w = c.args.setting.now.w in
+    let world = c.args.setting.now.world.now in
     let h = history_of world.store.now in
     let place = place_by_cells c.timeline-course.result.now (cells_at h c.args.id t) t (c.timeline-course.ensures.state t) in
     ap (λ spans. spans_have spans t) c.from_runs.ensures
     ∙ c.in_ok-runs.ensures.ticks t
     ∙ (λ i. within w.lo w.hi t
-    && distance_holds_by (comparison (c.exact-exact.ensures.sure i)) (c.exact-exact.ensures.error i) c.args.op c.args.c (place i) (place i))
+    && distance_holds_by (comparison (c.exact-exact.ensures.sure i)) (c.exact-exact.ensures.error i) c.args.compared.now.op c.args.compared.now.c (place i) (place i))

@@ -11,9 +11,9 @@ use Rattle.blur.proofs.objects.region_ticks.Goals as goal
 
 pub returns-clause-ticks : goal.returns-clause-ticks
 returns-clause-ticks g c = λ t.
-    let w = c.args.w in
-    let world = c.args.world.now in
-    let side = is_on_side c.args.inside world.blur.sure world.blur.error world.regions.now c.args.n in
+    let w = c.args.setting.now.w in
+    let world = c.args.setting.now.world.now in
+    let side = is_on_side c.args.side.inside world.blur.sure world.blur.error world.regions.now c.args.side.n in
     ap (λ spans. spans_have spans t) c.from_runs.ensures
     ∙ c.in_ok-runs.ensures.ticks t
     ∙ ap (λ (o : Option Point). within w.lo w.hi t && option_map_or side o false)

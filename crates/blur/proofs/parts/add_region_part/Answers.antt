@@ -16,7 +16,7 @@ returns-in-Some c =
     let span = common.span in
     let part = c.window.result in
     let line = c.in-Some.line in
-    let side = is_on_side c.args.inside c.args.blur.sure c.args.blur.error c.args.regions.now c.args.n in
+    let side = is_on_side c.args.side.inside c.args.blur.sure c.args.blur.error c.args.regions.now c.args.side.n in
     let old = c.args.runs.now in
     let new = c.add_side.new.runs in
     let found : ℕ → Bool = λ t. within part.lo part.hi t && side (position_after line (t - part.lo)) in
@@ -29,6 +29,6 @@ pub returns-in-None : goal.returns-in-None
 returns-in-None c =
     let common = c.args.common.now in
     let span = common.span in
-    let side = is_on_side c.args.inside c.args.blur.sure c.args.blur.error c.args.regions.now c.args.n in
+    let side = is_on_side c.args.side.inside c.args.blur.sure c.args.blur.error c.args.regions.now c.args.side.n in
     none_added span.lo span.hi (λ t. option_map_or side (place_in common 0 t) false) c.args.runs.now
     (unseen span.lo span.hi c.line_in.result (place_in common 0) c.line_in.ensures.places c.in-None.is side)

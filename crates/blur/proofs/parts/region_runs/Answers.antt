@@ -9,7 +9,7 @@ use Rattle.blur.proofs.parts.region_runs.Goals as goal
 
 pub add_region_part-requires-clause-before : goal.add_region_part-requires-clause-before
 add_region_part-requires-clause-before c =
-    let side = is_on_side c.args.inside c.args.blur.sure c.args.blur.error c.args.regions.now c.args.n in
+    let side = is_on_side c.args.side.inside c.args.blur.sure c.args.blur.error c.args.regions.now c.args.side.n in
     gathered_before (λ t. option_map_or side (place_at c.args.timeline.now t) false) c.args.w.lo c.joining.at c.common_from-common.result.span.lo c.joining.runs
     c.common_from-common.ensures.part.begins c.joining.invariant.ticks
 
@@ -19,7 +19,7 @@ joining-preserved c =
     let span = common.span in
     let begins : span.lo ≡ c.joining.at = c.common_from-common.ensures.part.begins in
     let timeline = c.args.timeline.now in
-    let side = is_on_side c.args.inside c.args.blur.sure c.args.blur.error c.args.regions.now c.args.n in
+    let side = is_on_side c.args.side.inside c.args.blur.sure c.args.blur.error c.args.regions.now c.args.side.n in
     let test : ℕ → Bool = λ t. option_map_or side (place_at timeline t) false in
     let seen : ℕ → Bool = λ t. option_map_or side (place_in common 0 t) false in
     record {

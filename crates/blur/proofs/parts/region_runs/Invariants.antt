@@ -10,7 +10,7 @@ abbrev pub invariant-joining : goal.invariant-joining
 invariant-joining l = record {
   from : l.w.lo ≤ l.at;
   until : l.at ≤ l.w.hi + 1;
-  ticks : IsGathered (λ t. option_map_or (is_on_side l.inside l.blur.sure l.blur.error l.regions l.n) (place_at l.fn.timeline t) false) l.w.lo l.at l.runs;
+  ticks : IsGathered (λ t. option_map_or (is_on_side l.side.inside l.blur.sure l.blur.error l.regions l.side.n) (place_at l.fn.timeline t) false) l.w.lo l.at l.runs;
 }
 
 abbrev pub decreases-joining : goal.decreases-joining

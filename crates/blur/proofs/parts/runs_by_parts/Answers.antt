@@ -8,7 +8,7 @@ use Rattle.blur.proofs.parts.runs_by_parts.Goals as goal
 
 pub add_distance_part-requires-clause-before : goal.add_distance_part-requires-clause-before
 add_distance_part-requires-clause-before c =
-    let holds = distance_holds_by (comparison c.args.blur.sure) c.args.blur.error c.args.op c.args.c in
+    let holds = distance_holds_by (comparison c.args.blur.sure) c.args.blur.error c.args.compared.now.op c.args.compared.now.c in
     gathered_before (λ t. holds (place_at c.args.from.now t) (place_at c.args.to.now t)) c.args.w.lo c.joining.at c.common_from-common.result.span.lo c.joining.runs
     c.common_from-common.ensures.part.begins c.joining.invariant.ticks
 
@@ -19,7 +19,7 @@ joining-preserved c =
     let begins : span.lo ≡ c.joining.at = c.common_from-common.ensures.part.begins in
     let from = c.args.from.now in
     let to = c.args.to.now in
-    let holds = distance_holds_by (comparison c.args.blur.sure) c.args.blur.error c.args.op c.args.c in
+    let holds = distance_holds_by (comparison c.args.blur.sure) c.args.blur.error c.args.compared.now.op c.args.compared.now.c in
     let test : ℕ → Bool = λ t. holds (place_at from t) (place_at to t) in
     let seen : ℕ → Bool = λ t. holds (place_in common 0 t) (place_in common 1 t) in
     record {

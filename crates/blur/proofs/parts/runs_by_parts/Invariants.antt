@@ -10,7 +10,7 @@ abbrev pub invariant-joining : goal.invariant-joining
 invariant-joining l = record {
   from : l.w.lo ≤ l.at;
   until : l.at ≤ l.w.hi + 1;
-  ticks : IsGathered (λ t. distance_holds_by (comparison l.blur.sure) l.blur.error l.op l.c (place_at l.fn.from t) (place_at l.fn.to t)) l.w.lo l.at l.runs;
+  ticks : IsGathered (λ t. distance_holds_by (comparison l.blur.sure) l.blur.error l.compared.op l.compared.c (place_at l.fn.from t) (place_at l.fn.to t)) l.w.lo l.at l.runs;
 }
 
 abbrev pub decreases-joining : goal.decreases-joining
