@@ -8,24 +8,23 @@ ghost use Rattle.motion.specs.Timeline.{epoch_at, state_at};
 ghost use Rattle.atoms.specs.Parts.{IsSteadyCell, trace_by};
 
 use crate::lines::timeline_of;
+use crate::parts::Traces;
 use motion::{Cell, Epoch, Timeline, Vector};
 use tick_set::Window;
 
 /// The cell of an attribute of the object of a variable, where it stays throughout the window, and what moves in it does so
 /// by one slope. None tells nothing.
 #[inline(always)]
-pub fn cell_throughout<'a>(
-    v: u8,
-    a: u8,
-    variables: &[u8],
-    timelines: &[&'a Timeline],
-    w: Window,
-) -> Option<&'a Cell>
-    ensures value { IfSome result (λ cell. (t : ℕ) → w.lo ≤ t → t ≤ w.hi
-        → cell_in (trace_by variables.now (epochs_of_each timelines.now) v t) a ≡ Some cell.now) }
-    ensures steady { IfSome result (λ cell. IsSteadyCell cell.now w.lo w.hi) }
+pub fn cell_throughout<'a>(v: u8, a: u8, traces: &Traces<'a>) -> Option<&'a Cell>
+    ensures value { IfSome result (λ cell. (t : ℕ) → traces.now.w.lo ≤ t → t ≤ traces.now.w.hi
+        → cell_in (trace_by traces.now.variables.now (epochs_of_each traces.now.timelines.now) v t) a ≡ Some cell.now) }
+    ensures steady { IfSome result (λ cell. IsSteadyCell cell.now traces.now.w.lo traces.now.w.hi) }
 {
-    last_cell(timeline_of(v, variables, timelines)?, a, w)
+    last_cell(
+        timeline_of(v, traces.variables, traces.timelines)?,
+        a,
+        traces.w,
+    )
 }
 
 // The same of a timeline.

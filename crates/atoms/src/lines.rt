@@ -6,21 +6,21 @@ ghost use Rattle.linear_crossing.specs.Moving.{IsInReach, position_after};
 ghost use Rattle.meaning.specs.Atom.{position_in};
 ghost use Rattle.atoms.specs.Parts.{beside, trace_by};
 
+use crate::parts::Traces;
 use courses::straight_line;
 use linear_crossing::Line;
 use motion::Timeline;
-use tick_set::Window;
 
 /// The line along which the object of a variable moves throughout the window. None tells nothing.
 #[inline(always)]
-pub fn line_of(v: u8, variables: &[u8], timelines: &[&Timeline], w: Window) -> Option<Line>
+pub fn line_of(v: u8, traces: &Traces) -> Option<Line>
     ensures reach { IfSome result IsInReach }
-    ensures places { IfSome result (λ l. (t : ℕ) → w.lo ≤ t → t ≤ w.hi
-        → position_in t (trace_by variables.now (epochs_of_each timelines.now) v t) ≡ Some (position_after l (t - w.lo))) }
-    ensures counted { IfSome result (λ l. 0 < pieces_of_all (epochs_of_each timelines.now) w.lo w.hi) }
+    ensures places { IfSome result (λ l. (t : ℕ) → traces.now.w.lo ≤ t → t ≤ traces.now.w.hi
+        → position_in t (trace_by traces.now.variables.now (epochs_of_each traces.now.timelines.now) v t) ≡ Some (position_after l (t - traces.now.w.lo))) }
+    ensures counted { IfSome result (λ l. 0 < pieces_of_all (epochs_of_each traces.now.timelines.now) traces.now.w.lo traces.now.w.hi) }
 {
-    let timeline = timeline_of(v, variables, timelines)?;
-    straight_line(timeline, w.span())
+    let timeline = timeline_of(v, traces.variables, traces.timelines)?;
+    straight_line(timeline, traces.w.span())
 }
 
 /// The timeline of a variable.

@@ -17,7 +17,15 @@ use motion::{Asked, Cell, Epoch, Timeline};
 use object_store::Store;
 use std::sync::ledger::Ledger;
 use steps::Steps;
-use tick_set::Span;
+use tick_set::{Span, Window};
+
+/// Some variables, their timelines in the same order, and a window of ticks.
+#[derive(Clone, Copy)]
+pub struct Traces<'a> {
+    pub variables: &'a [u8],
+    pub timelines: &'a [&'a Timeline],
+    pub w: Window,
+}
 
 /// Ticks in which the object of each of some variables has one epoch in force, or none yet, and each asked
 /// dynamic attribute moves by one slope.
@@ -69,27 +77,28 @@ fn item_at<'a>(epochs: &[Option<&'a Epoch>], place: usize) -> Option<&'a Epoch>
     *epochs.get(place)?
 }
 
-/// Puts the timelines of the objects of some variables first in an array, each looked up once. The others stay as
-/// they are.
-pub fn fill_timelines<'a, L: Ledger>(
-    timelines: &mut [&'a Timeline; MOST_TIMELINES],
+/// The timelines of the objects of some variables, each looked up once, and `none` at the other places of an array.
+pub fn timelines_of<'a, L: Ledger>(
     variables: &[u8],
     b: &Binding,
     store: &'a Store,
+    none: &'a Timeline,
     reads: &mut Steps<L>,
-)
+) -> [&'a Timeline; MOST_TIMELINES]
     requires few { length variables.now ≤ MOST_TIMELINES }
     requires there { All (HasObject b.now store.now) variables.now }
-    ensures epochs { take (length variables.now) (epochs_of_each timelines.new)
+    ensures epochs { take (length variables.now) (epochs_of_each result)
         ≡ map (λ v. epochs_of store.now (slice_index b.now v)) variables.now }
     ensures states { All (λ v. (t : ℕ) → trace_of (history_of store.now) (slice_index b.now) v t
         ≡ state_at (epochs_of store.now (slice_index b.now v)) t) variables.now }
     ensures step { reads.new ≡ reads.old + length variables.now }
 {
+    let mut timelines = [none; MOST_TIMELINES];
     for k in 0..variables.len() {
         let id = object_of(b, variables[k]);
         timelines[k] = store.timeline(id, reads);
     }
+    timelines
 }
 
 // The object of a variable in a binding, 0 past its end.

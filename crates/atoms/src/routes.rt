@@ -15,11 +15,12 @@ ghost use Rattle.atoms.specs.Routes.{IsPast, IsUpdated, place_along};
 use crate::attributes::epoch_throughout;
 use crate::found::all_or_none;
 use crate::lines::timeline_of;
+use crate::parts::Traces;
 use case_table::Op;
 use distance_crossing::Triple;
 use fixed_point::Fix;
 use geometry::apart;
-use motion::{Cell, Epoch, Timeline, Vector};
+use motion::{Cell, Epoch, Vector};
 use tick_set::Window;
 
 /// The coordinates by which an object moves throughout the window.
@@ -30,18 +31,13 @@ pub struct Route<'a> {
 }
 
 /// The route of the object of a variable. None tells nothing.
-pub fn route_of<'a>(
-    v: u8,
-    variables: &[u8],
-    timelines: &[&'a Timeline],
-    w: Window,
-) -> Option<Route<'a>>
-    ensures places { IfSome result (λ route. (t : ℕ) → w.lo ≤ t → t ≤ w.hi
-        → position_in t (trace_by variables.now (epochs_of_each timelines.now) v t) ≡ Some (place_along route t)) }
-    ensures written { IfSome result (λ route. IsUpdated route w.lo) }
+pub fn route_of<'a>(v: u8, traces: &Traces<'a>) -> Option<Route<'a>>
+    ensures places { IfSome result (λ route. (t : ℕ) → traces.now.w.lo ≤ t → t ≤ traces.now.w.hi
+        → position_in t (trace_by traces.now.variables.now (epochs_of_each traces.now.timelines.now) v t) ≡ Some (place_along route t)) }
+    ensures written { IfSome result (λ route. IsUpdated route traces.now.w.lo) }
 {
-    let timeline = timeline_of(v, variables, timelines)?;
-    let epoch = epoch_throughout(timeline, w)?;
+    let timeline = timeline_of(v, traces.variables, traces.timelines)?;
+    let epoch = epoch_throughout(timeline, traces.w)?;
     route_in(epoch)
 }
 

@@ -16,6 +16,7 @@ use crate::comparisons::numbers_compared;
 use crate::distances::apart;
 use crate::found::{one_run, outside_of};
 use crate::lines::line_of;
+use crate::parts::Traces;
 use crate::positions::inside_run;
 use crate::routes::{route_of, ticks_apart};
 use crate::straight_terms::straight_trend;
@@ -23,11 +24,9 @@ use case_table::Op;
 use distance_crossing::Triple;
 use fixed_point::Fix;
 use formula::{Env, RAtom};
-use motion::Timeline;
 use polygon::Regions;
 use std::sync::ledger::Ledger;
 use steps::Steps;
-use tick_set::Window;
 
 /// The ticks of the window at which an atom holds, where these are the timelines of its variables, and each of its objects
 /// moves along one line throughout. None tells nothing, and takes no probe.
@@ -36,36 +35,32 @@ pub fn straight_ticks<M: Ledger>(
     a: &RAtom,
     env: &Env,
     regions: &Regions,
-    variables: &[u8],
-    timelines: &[&Timeline],
-    w: Window,
+    traces: &Traces,
     probes: &mut Steps<M>,
 ) -> Option<Triple>
     requires sized { IsTrue (is_sized a.now) }
-    requires length { IsQueryWindow w }
-    ensures runs { IfSome result (λ found. AreRunsWhere (λ t. within w.lo w.hi t
-        && atom_holds regions.now (trace_by variables.now (epochs_of_each timelines.now)) a.now env.now t) found) }
+    requires length { IsQueryWindow traces.now.w }
+    ensures runs { IfSome result (λ found. AreRunsWhere (λ t. within traces.now.w.lo traces.now.w.hi t
+        && atom_holds regions.now (trace_by traces.now.variables.now (epochs_of_each traces.now.timelines.now)) a.now env.now t) found) }
     ensures cost { IfSome result (λ found. probes.new ≤ probes.old
-        + probe_limit a.now (w.hi - w.lo) * pieces_of_all (epochs_of_each timelines.now) w.lo w.hi) }
+        + probe_limit a.now (traces.now.w.hi - traces.now.w.lo) * pieces_of_all (epochs_of_each traces.now.timelines.now) traces.now.w.lo traces.now.w.hi) }
     ensures none { IfNone result (probes.new ≡ probes.old) }
 {
     match a {
         RAtom::Inside(v, n) => {
-            let line = line_of(*v, variables, timelines, w)?;
-            Some(one_run(inside_run(&line, *n, w.span(), regions)))
+            let line = line_of(*v, traces)?;
+            Some(one_run(inside_run(&line, *n, traces.w.span(), regions)))
         }
         RAtom::Outside(v, n) => {
-            let line = line_of(*v, variables, timelines, w)?;
-            let inner = inside_run(&line, *n, w.span(), regions);
-            Some(outside_of(w.span(), inner))
+            let line = line_of(*v, traces)?;
+            let inner = inside_run(&line, *n, traces.w.span(), regions);
+            Some(outside_of(traces.w.span(), inner))
         }
-        RAtom::Dist(from, to, op, c) => {
-            straight_distance(*from, *to, *op, *c, variables, timelines, w, probes)
-        }
+        RAtom::Dist(from, to, op, c) => { straight_distance(*from, *to, *op, *c, traces, probes) }
         RAtom::Compare(left, op, right) => {
-            let left = straight_trend(left, variables, timelines, env, w)?;
-            let right = straight_trend(right, variables, timelines, env, w)?;
-            Some(numbers_compared(left, *op, right, w.span()))
+            let left = straight_trend(left, traces, env)?;
+            let right = straight_trend(right, traces, env)?;
+            Some(numbers_compared(left, *op, right, traces.w.span()))
         }
         RAtom::Sphere(_, _) => None,
     }
@@ -78,26 +73,24 @@ fn straight_distance<M: Ledger>(
     to: u8,
     op: Op,
     c: Fix,
-    variables: &[u8],
-    timelines: &[&Timeline],
-    w: Window,
+    traces: &Traces,
     probes: &mut Steps<M>,
 ) -> Option<Triple>
     requires sized { IsTrue (is_within READ_LIMIT c) }
-    requires length { IsQueryWindow w }
-    ensures runs { IfSome result (λ found. AreRunsWhere (λ t. within w.lo w.hi t && distance_holds op c
-        (position_in t (trace_by variables.now (epochs_of_each timelines.now) from t))
-        (position_in t (trace_by variables.now (epochs_of_each timelines.now) to t))) found) }
+    requires length { IsQueryWindow traces.now.w }
+    ensures runs { IfSome result (λ found. AreRunsWhere (λ t. within traces.now.w.lo traces.now.w.hi t && distance_holds op c
+        (position_in t (trace_by traces.now.variables.now (epochs_of_each traces.now.timelines.now) from t))
+        (position_in t (trace_by traces.now.variables.now (epochs_of_each traces.now.timelines.now) to t))) found) }
     ensures cost { IfSome result (λ found. probes.new ≤ probes.old
-        + (if nat_le (w.hi - w.lo) SHORT_WINDOW then 47 else 63) * pieces_of_all (epochs_of_each timelines.now) w.lo w.hi) }
+        + (if nat_le (traces.now.w.hi - traces.now.w.lo) SHORT_WINDOW then 47 else 63) * pieces_of_all (epochs_of_each traces.now.timelines.now) traces.now.w.lo traces.now.w.hi) }
     ensures none { IfNone result (probes.new ≡ probes.old) }
 {
-    if let Some(first) = line_of(from, variables, timelines, w) {
-        if let Some(second) = line_of(to, variables, timelines, w) {
-            return Some(apart(&first, &second, op, c, w, probes));
+    if let Some(first) = line_of(from, traces) {
+        if let Some(second) = line_of(to, traces) {
+            return Some(apart(&first, &second, op, c, traces.w, probes));
         }
     }
-    let first = route_of(from, variables, timelines, w)?;
-    let second = route_of(to, variables, timelines, w)?;
-    ticks_apart(&first, &second, op, c, w)
+    let first = route_of(from, traces)?;
+    let second = route_of(to, traces)?;
+    ticks_apart(&first, &second, op, c, traces.w)
 }

@@ -12,6 +12,7 @@ ghost use Rattle.atoms.specs.Sizes.{is_sized_term};
 
 use crate::attributes::cell_throughout;
 use crate::lines::line_of;
+use crate::parts::Traces;
 use crate::terms::{
     Course, course_of_cell, course_of_sub, course_of_value, resting, signed, time_from,
 };
@@ -19,25 +20,17 @@ use crate::trends::Trend;
 use fixed_point::{Fix, Slope};
 use formula::{Env, RSigned, RTerm, RUnit};
 use linear_crossing::Line;
-use motion::Timeline;
-use tick_set::Window;
 
 /// How a term goes throughout the window, where it is one number. None tells nothing.
-pub fn straight_trend(
-    term: &RTerm,
-    variables: &[u8],
-    timelines: &[&Timeline],
-    env: &Env,
-    w: Window,
-) -> Option<Trend>
+pub fn straight_trend(term: &RTerm, traces: &Traces, env: &Env) -> Option<Trend>
     requires sized { IsTrue (is_sized_term term.now) }
-    ensures value { IfSome result (λ trend. (t : ℕ) → w.lo ≤ t → t ≤ w.hi
-        → term_value (trace_by variables.now (epochs_of_each timelines.now)) term.now env.now t
-        ≡ Some (values.Num (line_at trend.rise trend.start w.lo t))) }
+    ensures value { IfSome result (λ trend. (t : ℕ) → traces.now.w.lo ≤ t → t ≤ traces.now.w.hi
+        → term_value (trace_by traces.now.variables.now (epochs_of_each traces.now.timelines.now)) term.now env.now t
+        ≡ Some (values.Num (line_at trend.rise trend.start traces.now.w.lo t))) }
     ensures small { IfSome result (IsTrendOf FACTOR_LIMIT) }
 {
     let factor = only(term.factors.items())?;
-    let unit = straight_unit(&factor.unit, variables, timelines, env, w)?;
+    let unit = straight_unit(&factor.unit, traces, env)?;
     match signed(unit, factor)? {
         Course::Number(trend) => Some(trend),
         Course::Text(_) => None,
@@ -54,49 +47,37 @@ pub fn only(factors: &[RSigned]) -> Option<&RSigned>
 }
 
 // The course of a unit throughout the window. None tells nothing.
-fn straight_unit(
-    unit: &RUnit,
-    variables: &[u8],
-    timelines: &[&Timeline],
-    env: &Env,
-    w: Window,
-) -> Option<Course>
-    ensures value { IfSome result (λ course. (t : ℕ) → w.lo ≤ t → t ≤ w.hi
-        → unit_value (trace_by variables.now (epochs_of_each timelines.now)) env.now unit.now t
-        ≡ Some (course_value w.lo t course)) }
+fn straight_unit(unit: &RUnit, traces: &Traces, env: &Env) -> Option<Course>
+    ensures value { IfSome result (λ course. (t : ℕ) → traces.now.w.lo ≤ t → t ≤ traces.now.w.hi
+        → unit_value (trace_by traces.now.variables.now (epochs_of_each traces.now.timelines.now)) env.now unit.now t
+        ≡ Some (course_value traces.now.w.lo t course)) }
     ensures small { IfSome result IsUnitCourse }
 {
     match unit {
         RUnit::Literal(number) => Some(resting(*number)),
         RUnit::Var(depth, _) => Some(course_of_value(&env.get(*depth)?)),
-        RUnit::Attr(v, a, _) => straight_attribute(*v, *a, variables, timelines, w),
+        RUnit::Attr(v, a, _) => straight_attribute(*v, *a, traces),
         RUnit::Sub(v, a, name) => {
-            let cell = cell_throughout(*v, *a, variables, timelines, w)?;
-            course_of_sub(*name, cell, w.span())
+            let cell = cell_throughout(*v, *a, traces)?;
+            course_of_sub(*name, cell, traces.w.span())
         }
-        RUnit::Time => Some(time_from(w.lo)),
+        RUnit::Time => Some(time_from(traces.w.lo)),
         RUnit::Text(_) => None,
     }
 }
 
 // The course of an attribute throughout the window. None tells nothing.
-fn straight_attribute(
-    v: u8,
-    a: u8,
-    variables: &[u8],
-    timelines: &[&Timeline],
-    w: Window,
-) -> Option<Course>
-    ensures value { IfSome result (λ course. (t : ℕ) → w.lo ≤ t → t ≤ w.hi
-        → option_map (λ cell. cell_value cell t) (cell_in (trace_by variables.now (epochs_of_each timelines.now) v t) a)
-        ≡ Some (course_value w.lo t course)) }
+fn straight_attribute(v: u8, a: u8, traces: &Traces) -> Option<Course>
+    ensures value { IfSome result (λ course. (t : ℕ) → traces.now.w.lo ≤ t → t ≤ traces.now.w.hi
+        → option_map (λ cell. cell_value cell t) (cell_in (trace_by traces.now.variables.now (epochs_of_each traces.now.timelines.now) v t) a)
+        ≡ Some (course_value traces.now.w.lo t course)) }
     ensures small { IfSome result IsUnitCourse }
 {
-    match coordinate_of(v, a, variables, timelines, w) {
+    match coordinate_of(v, a, traces) {
         Some(course) => Some(course),
         None => {
-            let cell = cell_throughout(v, a, variables, timelines, w)?;
-            Some(course_of_cell(cell, w.span()))
+            let cell = cell_throughout(v, a, traces)?;
+            Some(course_of_cell(cell, traces.w.span()))
         }
     }
 }
@@ -104,22 +85,16 @@ fn straight_attribute(
 // The course of an attribute that is a coordinate of the line along which its object moves, with no look at the epochs. None
 // tells nothing.
 #[inline]
-fn coordinate_of(
-    v: u8,
-    a: u8,
-    variables: &[u8],
-    timelines: &[&Timeline],
-    w: Window,
-) -> Option<Course>
-    ensures value { IfSome result (λ course. (t : ℕ) → w.lo ≤ t → t ≤ w.hi
-        → option_map (λ cell. cell_value cell t) (cell_in (trace_by variables.now (epochs_of_each timelines.now) v t) a)
-        ≡ Some (course_value w.lo t course)) }
+fn coordinate_of(v: u8, a: u8, traces: &Traces) -> Option<Course>
+    ensures value { IfSome result (λ course. (t : ℕ) → traces.now.w.lo ≤ t → t ≤ traces.now.w.hi
+        → option_map (λ cell. cell_value cell t) (cell_in (trace_by traces.now.variables.now (epochs_of_each traces.now.timelines.now) v t) a)
+        ≡ Some (course_value traces.now.w.lo t course)) }
     ensures small { IfSome result IsUnitCourse }
 {
     if a > 1 {
         return None;
     }
-    let line = line_of(v, variables, timelines, w)?;
+    let line = line_of(v, traces)?;
     coordinate_along(&line, a)
 }
 

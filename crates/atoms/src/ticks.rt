@@ -17,11 +17,10 @@ ghost use Rattle.exact.specs.Lists.{SameLength};
 use crate::found::{append, runs_of};
 use crate::judged::judged;
 use crate::naming::named_by;
-use crate::parts::{fill_timelines, part_from};
+use crate::parts::{Traces, part_from, timelines_of};
 use crate::straight::straight_ticks;
 use crate::variables::variables_of_atom;
-use crate::world::StoredWorld;
-use courses::{MOST_TIMELINES, begun_by};
+use courses::begun_by;
 use formula::{Binding, Env, RAtom};
 use interval_set::IntervalSet;
 use motion::Timeline;
@@ -57,103 +56,76 @@ pub fn atom_ticks<L: Ledger, M: Ledger>(
     ensures probes { probes.new ≤ probes.old
         + probe_limit a.now (w.hi - w.lo) * pieces_of_all (atom_timelines store.now b.now a.now) w.lo w.hi }
 {
+    // It stands for each timeline that isn't asked for.
     let none = Timeline::new(alloc);
-    let world = StoredWorld { store, regions };
-    ticks_of(alloc, a, b, env, &world, &none, w, reads, probes)
-}
-
-// The same, where a timeline stands for each that isn't asked for.
-fn ticks_of<'x, L: Ledger, M: Ledger>(
-    alloc: Global,
-    a: &RAtom,
-    b: &Binding,
-    env: &Env,
-    world: &StoredWorld<'x>,
-    none: &'x Timeline,
-    w: Window,
-    reads: &mut Steps<L>,
-    probes: &mut Steps<M>,
-) -> Result<IntervalSet, AllocError>
-    requires sized { IsTrue (is_sized a.now) }
-    requires bound { (v : ℕ) → atom_has v a.now ≡ true → HasObject b.now world.now.store.now v }
-    requires length { IsQueryWindow w }
-    ensures ticks { IfOk result (λ s. (t : ℕ) → spans_have s t ≡ (within w.lo w.hi t
-        && atom_holds world.now.regions.now (trace_of (history_of world.now.store.now) (slice_index b.now)) a.now env.now t)) }
-    ensures reads { reads.new ≡ reads.old + length (atom_variables a.now) }
-    ensures probes { probes.new ≤ probes.old
-        + probe_limit a.now (w.hi - w.lo) * pieces_of_all (atom_timelines world.now.store.now b.now a.now) w.lo w.hi }
-{
     let variables = variables_of_atom(a);
-    let mut timelines = [none; MOST_TIMELINES];
-    fill_timelines(&mut timelines, variables, b, world.store, reads);
-    let timelines = &timelines[..variables.len()];
-    let runs = atom_runs(
-        alloc,
-        a,
-        env,
-        world.regions,
+    let timelines = timelines_of(variables, b, store, &none, reads);
+    let traces = Traces {
         variables,
-        timelines,
+        timelines: &timelines[..variables.len()],
         w,
-        probes,
-    )?;
+    };
+    let runs = atom_runs(alloc, a, env, regions, &traces, probes)?;
     Ok(IntervalSet::from_runs(runs))
 }
 
 // The runs of these ticks, where the variables of the atom have these timelines.
-fn atom_runs<'a, M: Ledger>(
+fn atom_runs<M: Ledger>(
     alloc: Global,
     a: &RAtom,
     env: &Env,
     regions: &Regions,
-    variables: &'a [u8],
-    timelines: &[&'a Timeline],
-    w: Window,
+    traces: &Traces,
     probes: &mut Steps<M>,
 ) -> Result<Vec<Span>, AllocError>
     requires sized { IsTrue (is_sized a.now) }
-    requires variables { variables.now ≡ atom_variables a.now }
-    requires few { AreFewTimelines timelines.now }
-    requires same { SameLength variables.now timelines.now }
-    requires length { IsQueryWindow w }
-    ensures runs { IfOk result (λ runs. IsRuns (λ t. within w.lo w.hi t
-        && atom_holds regions.now (trace_by variables.now (epochs_of_each timelines.now)) a.now env.now t) runs.items) }
+    requires variables { traces.now.variables.now ≡ atom_variables a.now }
+    requires few { AreFewTimelines traces.now.timelines.now }
+    requires same { SameLength traces.now.variables.now traces.now.timelines.now }
+    requires length { IsQueryWindow traces.now.w }
+    ensures runs { IfOk result (λ runs. IsRuns (λ t. within traces.now.w.lo traces.now.w.hi t
+        && atom_holds regions.now (trace_by traces.now.variables.now (epochs_of_each traces.now.timelines.now)) a.now env.now t) runs.items) }
     ensures cost { probes.new ≤ probes.old
-        + probe_limit a.now (w.hi - w.lo) * pieces_of_all (epochs_of_each timelines.now) w.lo w.hi }
+        + probe_limit a.now (traces.now.w.hi - traces.now.w.lo) * pieces_of_all (epochs_of_each traces.now.timelines.now) traces.now.w.lo traces.now.w.hi }
 {
-    match straight_ticks(a, env, regions, variables, timelines, w, probes) {
+    match straight_ticks(a, env, regions, traces, probes) {
         Some(found) => runs_of(alloc, &found),
-        None => runs_by_parts(alloc, a, env, regions, variables, timelines, w, probes),
+        None => runs_by_parts(alloc, a, env, regions, traces, probes),
     }
 }
 
 // The same, by the common parts of these timelines.
-fn runs_by_parts<'a, M: Ledger>(
+fn runs_by_parts<M: Ledger>(
     alloc: Global,
     a: &RAtom,
     env: &Env,
     regions: &Regions,
-    variables: &'a [u8],
-    timelines: &[&'a Timeline],
-    w: Window,
+    traces: &Traces,
     probes: &mut Steps<M>,
 ) -> Result<Vec<Span>, AllocError>
     requires sized { IsTrue (is_sized a.now) }
-    requires variables { variables.now ≡ atom_variables a.now }
-    requires few { AreFewTimelines timelines.now }
-    requires same { SameLength variables.now timelines.now }
-    requires length { IsQueryWindow w }
-    ensures runs { IfOk result (λ runs. IsRuns (λ t. within w.lo w.hi t
-        && atom_holds regions.now (trace_by variables.now (epochs_of_each timelines.now)) a.now env.now t) runs.items) }
+    requires variables { traces.now.variables.now ≡ atom_variables a.now }
+    requires few { AreFewTimelines traces.now.timelines.now }
+    requires same { SameLength traces.now.variables.now traces.now.timelines.now }
+    requires length { IsQueryWindow traces.now.w }
+    ensures runs { IfOk result (λ runs. IsRuns (λ t. within traces.now.w.lo traces.now.w.hi t
+        && atom_holds regions.now (trace_by traces.now.variables.now (epochs_of_each traces.now.timelines.now)) a.now env.now t) runs.items) }
     ensures cost { probes.new ≤ probes.old
-        + probe_limit a.now (w.hi - w.lo) * pieces_of_all (epochs_of_each timelines.now) w.lo w.hi }
+        + probe_limit a.now (traces.now.w.hi - traces.now.w.lo) * pieces_of_all (epochs_of_each traces.now.timelines.now) traces.now.w.lo traces.now.w.hi }
 {
     let asked = named_by(a);
-    let mut begun = begun_by(timelines, w.lo);
+    let mut begun = begun_by(traces.timelines, traces.w.lo);
     let mut runs = Runs::new(alloc);
-    let mut at = w.lo;
-    'joining: while at <= w.hi {
-        let part = part_from(variables, asked, timelines, &mut begun, at, w.hi);
+    let mut at = traces.w.lo;
+    'joining: while at <= traces.w.hi {
+        let part = part_from(
+            traces.variables,
+            asked,
+            traces.timelines,
+            &mut begun,
+            at,
+            traces.w.hi,
+        );
         append(&mut runs, &judged(a, &part, env, regions, probes))?;
         at = part.span.hi + 1;
     }

@@ -18,12 +18,12 @@ ghost use Rattle.atoms.specs.Sizes.{is_sized_term};
 ghost use Rattle.atoms.specs.ValueRuns.{AreMaximalRuns, HasValuesInRange};
 ghost use Rattle.exact.specs.Lists.{SameLength};
 
-use crate::parts::{fill_timelines, part_from};
+use crate::parts::{Traces, part_from, timelines_of};
 use crate::terms::{Course, course_of};
 use crate::trends::Trend;
 use crate::value_list::append_run;
 use crate::variables::variables_of_term;
-use courses::{MOST_TIMELINES, begun_by};
+use courses::begun_by;
 use fixed_point::{FIX_LIMIT, Fix};
 use formula::{Binding, Env, FACTOR_LIMIT, RTerm, Value};
 use interpreting::ValueRun;
@@ -58,62 +58,48 @@ pub fn value_runs<L: Ledger>(
         w.lo (w.hi + 1) runs.items) }
     ensures reads { reads.new ≡ reads.old + length (term_variables term.now) }
 {
+    // It stands for each timeline that isn't asked for.
     let none = Timeline::new(alloc);
-    runs_of(alloc, term, b, env, store, &none, w, reads)
-}
-
-// The same, where a timeline stands for each that isn't asked for.
-fn runs_of<'x, L: Ledger>(
-    alloc: Global,
-    term: &RTerm,
-    b: &Binding,
-    env: &Env,
-    store: &'x Store,
-    none: &'x Timeline,
-    w: Window,
-    reads: &mut Steps<L>,
-) -> Result<Vec<ValueRun>, AllocError>
-    requires sized { IsTrue (is_sized_term term.now) }
-    requires bound { (v : ℕ) → term_has v term.now ≡ true → HasObject b.now store.now v }
-    requires in_range { HasValuesInRange
-        (term_value (trace_of (history_of store.now) (slice_index b.now)) term.now env.now) w.lo (w.hi + 1) }
-    ensures runs { IfOk result (λ runs. AreMaximalRuns
-        (term_value (trace_of (history_of store.now) (slice_index b.now)) term.now env.now)
-        w.lo (w.hi + 1) runs.items) }
-    ensures reads { reads.new ≡ reads.old + length (term_variables term.now) }
-{
     let variables = variables_of_term(term);
-    let mut timelines = [none; MOST_TIMELINES];
-    fill_timelines(&mut timelines, variables, b, store, reads);
-    let timelines = &timelines[..variables.len()];
-    let runs = term_runs(alloc, term, env, variables, timelines, w)?;
+    let timelines = timelines_of(variables, b, store, &none, reads);
+    let traces = Traces {
+        variables,
+        timelines: &timelines[..variables.len()],
+        w,
+    };
+    let runs = term_runs(alloc, term, env, &traces)?;
     Ok(runs)
 }
 
 // The same, where the variables of the term have these timelines.
-fn term_runs<'a>(
+fn term_runs(
     alloc: Global,
     term: &RTerm,
     env: &Env,
-    variables: &'a [u8],
-    timelines: &[&'a Timeline],
-    w: Window,
+    traces: &Traces,
 ) -> Result<Vec<ValueRun>, AllocError>
     requires sized { IsTrue (is_sized_term term.now) }
-    requires few { AreFewTimelines timelines.now }
-    requires same { SameLength variables.now timelines.now }
-    requires ascending { AreAscending variables.now }
+    requires few { AreFewTimelines traces.now.timelines.now }
+    requires same { SameLength traces.now.variables.now traces.now.timelines.now }
+    requires ascending { AreAscending traces.now.variables.now }
     requires in_range { HasValuesInRange
-        (term_value (trace_by variables.now (epochs_of_each timelines.now)) term.now env.now) w.lo (w.hi + 1) }
+        (term_value (trace_by traces.now.variables.now (epochs_of_each traces.now.timelines.now)) term.now env.now) traces.now.w.lo (traces.now.w.hi + 1) }
     ensures { IfOk result (λ runs. AreMaximalRuns
-        (term_value (trace_by variables.now (epochs_of_each timelines.now)) term.now env.now)
-        w.lo (w.hi + 1) runs.items) }
+        (term_value (trace_by traces.now.variables.now (epochs_of_each traces.now.timelines.now)) term.now env.now)
+        traces.now.w.lo (traces.now.w.hi + 1) runs.items) }
 {
-    let mut begun = begun_by(timelines, w.lo);
+    let mut begun = begun_by(traces.timelines, traces.w.lo);
     let mut runs = Vec::new(alloc);
-    let mut at = w.lo;
-    'joining: while at <= w.hi {
-        let part = part_from(variables, Asked::All, timelines, &mut begun, at, w.hi);
+    let mut at = traces.w.lo;
+    'joining: while at <= traces.w.hi {
+        let part = part_from(
+            traces.variables,
+            Asked::All,
+            traces.timelines,
+            &mut begun,
+            at,
+            traces.w.hi,
+        );
         append_course(&mut runs, &course_of(term, &part, env), part.span)?;
         at = part.span.hi + 1;
     }

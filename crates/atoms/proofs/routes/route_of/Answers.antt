@@ -9,9 +9,9 @@ use Rattle.atoms.proofs.routes.route_of.Goals as goal
 
 pub returns-clause-places : goal.returns-clause-places
 returns-clause-places c =
-    let w = c.args.w in
-    let variables = c.args.variables.now in
-    let timelines = epochs_of_each c.args.timelines.now in
+    let w = c.args.traces.now.w in
+    let variables = c.args.traces.now.variables.now in
+    let timelines = epochs_of_each c.args.traces.now.timelines.now in
     let p = c.in_ok-epoch.epoch.now in
     on_route c.route_in.result w.lo w.hi (λ t. position_in t (trace_by variables timelines c.args.v t)) (place_of p)
     (λ t from up_to.
@@ -20,4 +20,4 @@ returns-clause-places c =
     c.route_in.ensures.places
 
 pub returns-clause-written : goal.returns-clause-written
-returns-clause-written c = written_later c.route_in.result c.in_ok-epoch.epoch.now.from c.args.w.lo c.in_ok-epoch.ensures.begun c.route_in.ensures.written
+returns-clause-written c = written_later c.route_in.result c.in_ok-epoch.epoch.now.from c.args.traces.now.w.lo c.in_ok-epoch.ensures.begun c.route_in.ensures.written

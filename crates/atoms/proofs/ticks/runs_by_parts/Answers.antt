@@ -13,17 +13,17 @@ use Rattle.atoms.proofs.ticks.runs_by_parts.Goals as goal
 
 pub joining-preserved : goal.joining-preserved
 joining-preserved g c =
-    let w = c.args.w in
+    let w = c.args.traces.now.w in
     let a = c.args.a.now in
     let part = c.part_from-part.result in
-    let timelines = epochs_of_each c.args.timelines.now in
+    let timelines = epochs_of_each c.args.traces.now.timelines.now in
     let asked = c.named_by-asked.result in
-    let trace = trace_by c.args.variables.now timelines in
+    let trace = trace_by c.args.traces.now.variables.now timelines in
     let begins = c.part_from-part.ensures.part.begins in
     let found = part_found c.args.regions.now a c.args.env.now trace part (triple_spans c.judged.result) c.part_from-part.ensures.part.shown c.judged.ensures.runs in
-    let cost = part_cost a part c.args.variables.now c.joining.probes c.judged.new.probes (w.hi - w.lo) (pieces_asked asked timelines (part.span.hi + 1) w.hi) (pieces_asked asked timelines c.joining.at w.hi)
+    let cost = part_cost a part c.args.traces.now.variables.now c.joining.probes c.judged.new.probes (w.hi - w.lo) (pieces_asked asked timelines (part.span.hi + 1) w.hi) (pieces_asked asked timelines c.joining.at w.hi)
     c.requires.sized c.requires.variables c.part_from-part.ensures.part.of_variables (omega (arith, begins, c.part_from-part.ensures.part.within, c.joining.invariant.from))
-    c.judged.ensures.cost c.judged.ensures.absent (λ some each. c.part_from-part.ensures.part.fewer (omega (arith, some, c.requires.same, length-epochs_of_each c.args.timelines.now)) each) c.part_from-part.ensures.part.not_more in
+    c.judged.ensures.cost c.judged.ensures.absent (λ some each. c.part_from-part.ensures.part.fewer (omega (arith, some, c.requires.same, length-epochs_of_each c.args.traces.now.timelines.now)) each) c.part_from-part.ensures.part.not_more in
     record {
       from = omega (arith, begins, part.span.ordered, c.joining.invariant.from);
       until = omega (arith, c.part_from-part.ensures.part.within);
@@ -37,25 +37,25 @@ pub append-requires-clause-past : goal.append-requires-clause-past
 append-requires-clause-past g c =
     let a = c.args.a.now in
     let part = c.part_from-part.result in
-    let trace = trace_by c.args.variables.now (epochs_of_each c.args.timelines.now) in
+    let trace = trace_by c.args.traces.now.variables.now (epochs_of_each c.args.traces.now.timelines.now) in
     let found = part_found c.args.regions.now a c.args.env.now trace part (triple_spans c.judged.result) c.part_from-part.ensures.part.shown c.judged.ensures.runs in
-    gathered_past (atom_holds c.args.regions.now trace a c.args.env.now) c.args.w.lo c.joining.at part.span.lo part.span.hi c.joining.runs (triple_spans c.judged.result)
+    gathered_past (atom_holds c.args.regions.now trace a c.args.env.now) c.args.traces.now.w.lo c.joining.at part.span.lo part.span.hi c.joining.runs (triple_spans c.judged.result)
     c.part_from-part.ensures.part.begins c.joining.invariant.ticks found
 
 pub returns-in_err-append-clause-cost : goal.returns-in_err-append-clause-cost
 returns-in_err-append-clause-cost g c =
-    let w = c.args.w in
+    let w = c.args.traces.now.w in
     let part = c.part_from-part.result in
-    let timelines = epochs_of_each c.args.timelines.now in
+    let timelines = epochs_of_each c.args.traces.now.timelines.now in
     let asked = c.named_by-asked.result in
     let begins = c.part_from-part.ensures.part.begins in
-    let cost = part_cost c.args.a.now part c.args.variables.now c.joining.probes c.judged.new.probes (w.hi - w.lo) (pieces_asked asked timelines (part.span.hi + 1) w.hi) (pieces_asked asked timelines c.joining.at w.hi)
+    let cost = part_cost c.args.a.now part c.args.traces.now.variables.now c.joining.probes c.judged.new.probes (w.hi - w.lo) (pieces_asked asked timelines (part.span.hi + 1) w.hi) (pieces_asked asked timelines c.joining.at w.hi)
     c.requires.sized c.requires.variables c.part_from-part.ensures.part.of_variables (omega (arith, begins, c.part_from-part.ensures.part.within, c.joining.invariant.from))
-    c.judged.ensures.cost c.judged.ensures.absent (λ some each. c.part_from-part.ensures.part.fewer (omega (arith, some, c.requires.same, length-epochs_of_each c.args.timelines.now)) each) c.part_from-part.ensures.part.not_more in
+    c.judged.ensures.cost c.judged.ensures.absent (λ some each. c.part_from-part.ensures.part.fewer (omega (arith, some, c.requires.same, length-epochs_of_each c.args.traces.now.timelines.now)) each) c.part_from-part.ensures.part.not_more in
     omega (arith, cost, c.joining.invariant.most, cost_less (probe_limit c.args.a.now (w.hi - w.lo)) asked timelines w.lo w.hi)
 
 pub returns-clause-cost : goal.returns-clause-cost
 returns-clause-cost g c =
-    let w = c.args.w in
+    let w = c.args.traces.now.w in
     omega
-    (arith, c.joining.invariant.most, cost_less (probe_limit c.args.a.now (w.hi - w.lo)) c.named_by-asked.result (epochs_of_each c.args.timelines.now) w.lo w.hi)
+    (arith, c.joining.invariant.most, cost_less (probe_limit c.args.a.now (w.hi - w.lo)) c.named_by-asked.result (epochs_of_each c.args.traces.now.timelines.now) w.lo w.hi)

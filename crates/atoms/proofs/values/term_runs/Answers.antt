@@ -11,7 +11,7 @@ use Rattle.atoms.proofs.values.term_runs.Goals as goal
 pub append_course-requires-clause-in_range : goal.append_course-requires-clause-in_range
 append_course-requires-clause-in_range c = λ t from before n is.
     let part = c.part_from-part.result in
-    let trace = trace_by c.args.variables.now (epochs_of_each c.args.timelines.now) in
+    let trace = trace_by c.args.traces.now.variables.now (epochs_of_each c.args.traces.now.timelines.now) in
     let begins = c.part_from-part.ensures.part.begins in
     c.requires.in_range t (omega (arith, begins, c.joining.invariant.from)) (omega (arith, c.part_from-part.ensures.part.within)) n
     (part_value c.args.term.now c.args.env.now trace part c.part_from-part.ensures.part.shown t from (omega arith) ∙ c.course_of.ensures.value t from (omega arith) ∙ is)
@@ -19,7 +19,7 @@ append_course-requires-clause-in_range c = λ t from before n is.
 pub joining-preserved : goal.joining-preserved
 joining-preserved c =
     let part = c.part_from-part.result in
-    let trace = trace_by c.args.variables.now (epochs_of_each c.args.timelines.now) in
+    let trace = trace_by c.args.traces.now.variables.now (epochs_of_each c.args.traces.now.timelines.now) in
     let value = term_value trace c.args.term.now c.args.env.now in
     let begins = c.part_from-part.ensures.part.begins in
     record {
@@ -27,8 +27,8 @@ joining-preserved c =
       until = omega (arith, c.part_from-part.ensures.part.within);
       begun = c.part_from-part.ensures.begun;
       runs =
-          c.in_ok-append_course.ensures value c.args.w.lo (omega (arith, begins, c.joining.invariant.from))
-          (subst (λ at. AreMaximalRuns value c.args.w.lo at c.joining.runs.items) (sym begins) c.joining.invariant.runs)
+          c.in_ok-append_course.ensures value c.args.traces.now.w.lo (omega (arith, begins, c.joining.invariant.from))
+          (subst (λ at. AreMaximalRuns value c.args.traces.now.w.lo at c.joining.runs.items) (sym begins) c.joining.invariant.runs)
           (λ t a b. part_value c.args.term.now c.args.env.now trace part c.part_from-part.ensures.part.shown t a b ∙ c.course_of.ensures.value t a b);
     }
 

@@ -8,11 +8,11 @@ use Rattle.atoms.proofs.values.term_runs.Given as goal
 -- the runs of the ticks before `at`
 abbrev pub invariant-joining : goal.invariant-joining
 invariant-joining l = record {
-  from : l.w.lo ≤ l.at;
-  until : l.at ≤ l.w.hi + 1;
-  begun : AreBegun (epochs_of_each l.timelines) l.at l.begun;
-  runs : AreMaximalRuns (term_value (trace_by l.variables (epochs_of_each l.timelines)) l.term l.env) l.w.lo l.at l.runs.items;
+  from : l.traces.w.lo ≤ l.at;
+  until : l.at ≤ l.traces.w.hi + 1;
+  begun : AreBegun (epochs_of_each l.traces.timelines.now) l.at l.begun;
+  runs : AreMaximalRuns (term_value (trace_by l.traces.variables.now (epochs_of_each l.traces.timelines.now)) l.term l.env) l.traces.w.lo l.at l.runs.items;
 }
 
 abbrev pub decreases-joining : goal.decreases-joining
-decreases-joining l = l.w.hi + 1 - l.at
+decreases-joining l = l.traces.w.hi + 1 - l.at

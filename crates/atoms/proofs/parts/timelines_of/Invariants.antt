@@ -6,7 +6,7 @@ use Rattle.meaning.specs.Trace.{trace_of}
 use Rattle.motion.specs.Timeline.{state_at}
 use Rattle.object_store.specs.Contents.{history_of}
 use Rattle.atoms.specs.Parts.{epochs_of}
-use Rattle.atoms.proofs.parts.fill_timelines.Given as goal
+use Rattle.atoms.proofs.parts.timelines_of.Given as goal
 
 -- the timelines of the first variables
 abbrev pub invariant-loop-k : goal.invariant-loop-k

@@ -7,7 +7,7 @@ use Rattle.meaning.specs.Trace.{trace_of}
 use Rattle.object_store.specs.Contents.{history_of}
 use Rattle.atoms.specs.Parts.{epochs_of}
 use Rattle.atoms.proofs.PartLemmas.{epochs_at, timelines_more}
-use Rattle.atoms.proofs.parts.fill_timelines.Goals as goal
+use Rattle.atoms.proofs.parts.timelines_of.Goals as goal
 
 pub loop-k-preserved : goal.loop-k-preserved
 loop-k-preserved g c =

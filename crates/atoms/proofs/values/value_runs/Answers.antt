@@ -14,7 +14,7 @@ use Rattle.atoms.specs.Parts.{epochs_of, trace_by}
 use Rattle.atoms.proofs.PartLemmas.{is_listed}
 use Rattle.atoms.proofs.TickLemmas.{trace_is}
 use Rattle.atoms.proofs.ValueRunLemmas.{runs_of_equal}
-use Rattle.atoms.proofs.values.runs_of.Goals as goal
+use Rattle.atoms.proofs.values.value_runs.Goals as goal
 
 pub term_runs-requires-clause-in_range : goal.term_runs-requires-clause-in_range
 term_runs-requires-clause-in_range g c = λ t from before n is.
@@ -22,16 +22,16 @@ term_runs-requires-clause-in_range g c = λ t from before n is.
     let b = c.args.b.now in
     let s = c.args.store.now in
     let vs = c.variables_of_term-variables.result.now in
-    let all = c.fill_timelines.new.timelines in
+    let all = c.timelines_of-timelines.result in
     let ts = epochs_of_each (take (length vs) all) in
     let f = λ (v : ℕ). epochs_of s (slice_index b v) in
     let h = trace_of (history_of s) (slice_index b) in
-    let are : ts ≡ map f vs = sym (take-map (λ (x : Bor (List Epoch)). x.now) (length vs) all) ∙ c.fill_timelines.ensures.epochs in
+    let are : ts ≡ map f vs = sym (take-map (λ (x : Bor (List Epoch)). x.now) (length vs) all) ∙ c.timelines_of-timelines.ensures.epochs in
     c.requires.in_range t from before n
     (sym (term_same (trace_by vs ts) h c.args.env.now t q
     (λ v has.
     let small : v < 4 = (c.requires.bound v has).few in
-    trace_is h f vs ts v t are c.fill_timelines.ensures.states
+    trace_is h f vs ts v t are c.timelines_of-timelines.ensures.states
     (subst (λ (xs : List ℕ). list_any (λ u. u == v) xs ≡ true) (sym c.variables_of_term-variables.ensures)
     (is_listed (λ u. term_has u q) v small has))))
     ∙ is)
@@ -42,17 +42,17 @@ returns-clause-runs g c =
     let b = c.args.b.now in
     let s = c.args.store.now in
     let vs = c.variables_of_term-variables.result.now in
-    let all = c.fill_timelines.new.timelines in
+    let all = c.timelines_of-timelines.result in
     let ts = epochs_of_each (take (length vs) all) in
     let f = λ (v : ℕ). epochs_of s (slice_index b v) in
     let h = trace_of (history_of s) (slice_index b) in
-    let are : ts ≡ map f vs = sym (take-map (λ (x : Bor (List Epoch)). x.now) (length vs) all) ∙ c.fill_timelines.ensures.epochs in
+    let are : ts ≡ map f vs = sym (take-map (λ (x : Bor (List Epoch)). x.now) (length vs) all) ∙ c.timelines_of-timelines.ensures.epochs in
     runs_of_equal (term_value (trace_by vs ts) q c.args.env.now) (term_value h q c.args.env.now) c.args.w.lo (c.args.w.hi + 1) c.in_ok-runs.runs.items
     (λ t.
     term_same (trace_by vs ts) h c.args.env.now t q
     (λ v has.
     let small : v < 4 = (c.requires.bound v has).few in
-    trace_is h f vs ts v t are c.fill_timelines.ensures.states
+    trace_is h f vs ts v t are c.timelines_of-timelines.ensures.states
     (subst (λ (xs : List ℕ). list_any (λ u. u == v) xs ≡ true) (sym c.variables_of_term-variables.ensures)
     (is_listed (λ u. term_has u q) v small has))))
     c.in_ok-runs.ensures
