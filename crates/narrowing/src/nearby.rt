@@ -22,6 +22,14 @@ pub(crate) struct Neighbour {
     pub most: Fix,
 }
 
+// Of which class objects are looked for, how far they may be along each axis, and how many at most are worth it.
+#[derive(Drop)]
+struct Sought {
+    class: ClassId,
+    most: Fix,
+    limit: usize,
+}
+
 /// Near which other variable's object an atom needs that of a variable, where each position may be off by the error. None
 /// where it needs it near none.
 pub(crate) fn neighbour_of(a: &RAtom, var: u8, error: u32) -> Option<Neighbour>
@@ -124,10 +132,11 @@ pub(crate) fn those_beside(
     ensures { IfOk result (λ found. IfSome found (λ ids. AreBeside scene.now class most others.now ids.items)) }
 {
     let limit = scene.store.class_names(class).len() / 2 / others.len().max(1);
+    let sought = Sought { class, most, limit };
     let mut ids = Vec::new(alloc);
     let mut rest = others;
     'others: while let Some((other, later)) = rest.split_first() {
-        let are_told = push_beside(alloc, &mut ids, class, *other, most, limit, scene)?;
+        let are_told = push_beside(alloc, &mut ids, *other, &sought, scene)?;
         if !are_told {
             return Ok(None);
         }
@@ -140,17 +149,22 @@ pub(crate) fn those_beside(
 fn push_beside(
     alloc: Global,
     ids: &mut Vec<u32>,
-    class: ClassId,
     other: u32,
-    most: Fix,
-    limit: usize,
+    sought: &Sought,
     scene: &Scene,
 ) -> Result<bool, AllocError>
     requires after { HasNoWriteAfter scene.now.store.now scene.now.w.lo }
-    ensures { IfOk result (λ are_told. are_told ≡ true → IsWithThose scene.now class most other ids.old.items ids.new.items) }
+    ensures { IfOk result (λ are_told. are_told ≡ true → IsWithThose scene.now sought.now.class sought.now.most other ids.old.items ids.new.items) }
 {
     match scene.store.whereabouts(other, scene.w) {
-        Some(area) => push_near(alloc, ids, class, &grown(&area, most), limit, scene),
+        Some(area) => push_near(
+            alloc,
+            ids,
+            sought.class,
+            &grown(&area, sought.most),
+            sought.limit,
+            scene,
+        ),
         None => Ok(true),
     }
 }

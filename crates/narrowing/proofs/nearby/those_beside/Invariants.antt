@@ -5,7 +5,7 @@ use Rattle.narrowing.proofs.nearby.those_beside.Given as goal
 
 -- what isn't among the ids is near to none of the others so far
 abbrev pub invariant-others : goal.invariant-others
-invariant-others l = AreLost (AreFar l.scene l.class l.most l.ids.items) l.others l.rest
+invariant-others l = AreLost (AreFar l.scene l.class l.fn.most l.ids.items) l.others l.rest
 
 abbrev pub decreases-others : goal.decreases-others
 decreases-others l = length l.rest
