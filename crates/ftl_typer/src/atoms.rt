@@ -53,6 +53,13 @@ fn note_points(scope: &Scope, names: &[Word], at: usize, found: &mut Found)
     }
 }
 
+/// Where a part of a query stands: how many names and how many terms are written before it.
+#[derive(Clone, Copy, Debug)]
+pub struct Place {
+    pub names: usize,
+    pub terms: usize,
+}
+
 /// Notes the faults of a comparison, and answers how many names stand before what comes behind it.
 #[tactic(auto, using(crate::proofs::FoundLemmas::found_none, crate::proofs::FoundLemmas::found_on))]
 fn note_compare(
@@ -60,28 +67,20 @@ fn note_compare(
     left: &Term,
     op: Op,
     right: &Term,
-    at: usize,
-    nth: usize,
+    at: Place,
     found: &mut Found,
 ) -> usize
-    requires names { at + length (term_names left.now) + length (term_names right.now) ≤ usize.MAX }
-    requires terms { nth < usize.MAX }
+    requires names { at.names + length (term_names left.now) + length (term_names right.now) ≤ usize.MAX }
+    requires terms { at.terms < usize.MAX }
     requires few_left { AreFewFactors left.now.factors }
     requires few_right { AreFewFactors right.now.factors }
-    ensures found { found.new ≡ found_after found.old (compare_faults (scope_in scope.now) at nth left.now op right.now) }
-    ensures behind { result ≡ at + length (term_names left.now) + length (term_names right.now) }
+    ensures found { found.new ≡ found_after found.old (compare_faults (scope_in scope.now) at.names at.terms left.now op right.now) }
+    ensures behind { result ≡ at.names + length (term_names left.now) + length (term_names right.now) }
 {
     let fit = may_compare(term_kind(scope, left), op, term_kind(scope, right));
-    found.note_if(!fit, FaultKind::WrongKind, at);
-    let between = note_term(scope, left, at, nth, found);
-    note_term(scope, right, between, nth + 1, found)
-}
-
-/// Where a part of a query stands: how many names and how many terms are written before it.
-#[derive(Clone, Copy, Debug)]
-pub struct Place {
-    pub names: usize,
-    pub terms: usize,
+    found.note_if(!fit, FaultKind::WrongKind, at.names);
+    let between = note_term(scope, left, at.names, at.terms, found);
+    note_term(scope, right, between, at.terms + 1, found)
 }
 
 /// Notes the faults of an atom, and answers the place of what comes behind it.
@@ -96,7 +95,7 @@ pub fn note_atom(scope: &Scope, atom: &Atom, at: Place, found: &mut Found) -> Pl
 {
     match atom {
         Atom::Compare(left, op, right) => Place {
-            names: note_compare(scope, left, *op, right, at.names, at.terms, found),
+            names: note_compare(scope, left, *op, right, at, found),
             terms: at.terms + 2,
         },
         Atom::Inside(object, region) | Atom::Outside(object, region) => {
