@@ -9,6 +9,7 @@ ghost use Rattle.evaluator.specs.Rows.{is_full, query_reads_upto};
 ghost use Rattle.steps.specs.Counting.{StepsAtMost};
 
 use crate::full::key_of;
+use crate::here::Here;
 use crate::ticks::ticks_of;
 use formula::{Env, RQuery};
 use interpreting::Interpreter;
@@ -41,7 +42,12 @@ pub fn ticks_alone<S: Temporal, I: Interpreter<S>, L: Ledger, M: Ledger>(
 {
     let binding = key_of(id);
     let env = Env::new();
-    let ticks: S = ticks_of(alloc, source, &q.formula, &binding, &env, w, reads, probes)?;
+    let here = Here {
+        source,
+        binding: &binding,
+        values: &env,
+    };
+    let ticks: S = ticks_of(alloc, &here, &q.formula, w, reads, probes)?;
     if ticks.is_empty() {
         return Ok(ticks);
     }

@@ -15,6 +15,7 @@ ghost use Rattle.evaluator.specs.inner.ByBinding.{holds_at, is_over, reads_here}
 ghost use Rattle.evaluator.specs.inner.Filled.{IsFilled, keys_behind};
 ghost use Rattle.steps.specs.Counting.{StepsAtMost};
 
+use crate::here::Here;
 use crate::keys::{keys_of, with_first};
 use crate::ticks::ticks_of;
 use crate::variables::binding_at;
@@ -27,77 +28,93 @@ use steps::Steps;
 use tick_set::Window;
 use until_merge::Temporal;
 
+// A formula and its variables, what it is asked of, the values that are bound, and the window.
+#[derive(Drop)]
+pub(crate) struct Scene<'a, I> {
+    pub(crate) source: &'a I,
+    pub(crate) formula: &'a RFormula,
+    pub(crate) variables: &'a [u8],
+    pub(crate) values: &'a Env,
+    pub(crate) window: Window,
+}
+
+// Keys with an object that stands in front of each.
+#[derive(Clone, Copy)]
+struct Behind<'a> {
+    id: u32,
+    later: &'a [Binding],
+}
+
 // The rows of a formula whose atoms are asked no more often so than over their own variables: no other relation is made,
 // nor a list of all keys.
 pub(crate) fn rows_by_key<'d, S: Temporal, I: Interpreter<S>, L: Ledger, M: Ledger>(
     alloc: Global,
-    source: &I,
-    f: &RFormula,
-    vars: &[u8],
+    scene: &Scene<'_, I>,
     d: &'d Domains,
-    env: &Env,
-    w: Window,
     reads: &mut Steps<L>,
     probes: &mut Steps<M>,
 ) -> Result<Relation<'d, S>, AllocError>
-    requires vars { vars.now ≡ variables_of (formula_view f.now) }
-    requires alike { is_over (domain_size d.now) vars.now (formula_view f.now) ≡ true }
-    requires over { IsOver (length d.now) (formula_view f.now) }
-    requires can { CanAsk (I.interpretation source.now) (I.atom_fits source.now w.lo w.hi)
-        (I.term_fits source.now w.lo w.hi) d.now w.lo w.hi (formula_view f.now) env.now }
-    ensures rows { IfOk result (λ r. AreRowsOf S.member (I.interpretation source.now) d.now w.lo w.hi
-        (formula_view f.now) env.now r) }
-    ensures reads { StepsAtMost reads.old reads.new (reads_upto d.now w.lo w.hi (formula_view f.now)) }
+    requires vars { scene.now.variables.now ≡ variables_of (formula_view scene.now.formula.now) }
+    requires alike { is_over (domain_size d.now) scene.now.variables.now (formula_view scene.now.formula.now) ≡ true }
+    requires over { IsOver (length d.now) (formula_view scene.now.formula.now) }
+    requires can { CanAsk (I.interpretation scene.now.source.now)
+        (I.atom_fits scene.now.source.now scene.now.window.lo scene.now.window.hi)
+        (I.term_fits scene.now.source.now scene.now.window.lo scene.now.window.hi) d.now
+        scene.now.window.lo scene.now.window.hi
+        (formula_view scene.now.formula.now) scene.now.values.now }
+    ensures rows { IfOk result (λ r. AreRowsOf S.member (I.interpretation scene.now.source.now) d.now
+        scene.now.window.lo scene.now.window.hi (formula_view scene.now.formula.now) scene.now.values.now r) }
+    ensures reads { StepsAtMost reads.old reads.new
+        (reads_upto d.now scene.now.window.lo scene.now.window.hi (formula_view scene.now.formula.now)) }
 {
     // The number of domains bounds the variables.
     let _ = d.len();
-    let mut made = Relation::empty(alloc, vars, d, w);
-    let Some((first, rest)) = vars.split_first() else {
+    let mut made = Relation::empty(alloc, scene.variables, d, scene.window);
+    let Some((first, rest)) = scene.variables.split_first() else {
         let key = Binding::new();
-        put_row(
-            alloc, source, f, vars, key, env, w, &mut made, reads, probes,
-        )?;
+        put_row(alloc, scene, key, &mut made, reads, probes)?;
         return Ok(made);
     };
     let keys = keys_of(alloc, d, rest)?;
     let later = keys.items();
     'ids: for id in d.of(*first) {
-        put_rows(
-            alloc, source, f, vars, *id, later, env, w, &mut made, reads, probes,
-        )?;
+        let behind = Behind { id: *id, later };
+        put_rows(alloc, scene, &behind, &mut made, reads, probes)?;
     }
     Ok(made)
 }
 
-// Adds the rows of the keys that have an object in front of one of these.
+// Adds the rows of keys.
 fn put_rows<'d, S: Temporal, I: Interpreter<S>, L: Ledger, M: Ledger>(
     alloc: Global,
-    source: &I,
-    f: &RFormula,
-    vars: &[u8],
-    id: u32,
-    later: &[Binding],
-    env: &Env,
-    w: Window,
+    scene: &Scene<'_, I>,
+    behind: &Behind<'_>,
     made: &mut Relation<'d, S>,
     reads: &mut Steps<L>,
     probes: &mut Steps<M>,
 ) -> Result<(), AllocError>
-    requires vars { vars.now ≡ variables_of (formula_view f.now) }
-    requires over { IsOver OBJECT_LIMIT (formula_view f.now) }
-    requires can { CanAsk (I.interpretation source.now) (I.atom_fits source.now w.lo w.hi)
-        (I.term_fits source.now w.lo w.hi) made.old.domains w.lo w.hi (formula_view f.now) env.now }
-    requires head { IsSameHead (table vars.now made.old.domains w.lo w.hi []) made.old }
-    requires inside { list_all (λ key. key_in made.old.domains vars.now (id ∷ key)) later.now ≡ true }
-    requires ascend { AreAscendingKeys later.now }
-    requires above { list_all (λ r. key_below r.key (id ∷ [])) made.old.rows ≡ true }
-    ensures rows { OnOk result (IsFilled S.member (holds_at (I.interpretation source.now) vars.now w.lo w.hi
-        (formula_view f.now) env.now) (keys_behind id later.now) made.old made.new) }
-    ensures reads { StepsAtMost reads.old reads.new (length later.now * reads_here w.lo w.hi (formula_view f.now)) }
+    requires vars { scene.now.variables.now ≡ variables_of (formula_view scene.now.formula.now) }
+    requires over { IsOver OBJECT_LIMIT (formula_view scene.now.formula.now) }
+    requires can { CanAsk (I.interpretation scene.now.source.now)
+        (I.atom_fits scene.now.source.now scene.now.window.lo scene.now.window.hi)
+        (I.term_fits scene.now.source.now scene.now.window.lo scene.now.window.hi) made.old.domains
+        scene.now.window.lo scene.now.window.hi
+        (formula_view scene.now.formula.now) scene.now.values.now }
+    requires head { IsSameHead
+        (table scene.now.variables.now made.old.domains scene.now.window.lo scene.now.window.hi []) made.old }
+    requires inside { list_all (λ key. key_in made.old.domains scene.now.variables.now (behind.now.id ∷ key)) behind.now.later.now
+        ≡ true }
+    requires ascend { AreAscendingKeys behind.now.later.now }
+    requires above { list_all (λ r. key_below r.key (behind.now.id ∷ [])) made.old.rows ≡ true }
+    ensures rows { OnOk result (IsFilled S.member (holds_at (I.interpretation scene.now.source.now) scene.now.variables.now
+        scene.now.window.lo scene.now.window.hi (formula_view scene.now.formula.now) scene.now.values.now)
+        (keys_behind behind.now.id behind.now.later.now) made.old made.new) }
+    ensures reads { StepsAtMost reads.old reads.new
+        (length behind.now.later.now * reads_here scene.now.window.lo scene.now.window.hi (formula_view scene.now.formula.now)) }
 {
-    'keys: for key in later {
-        let key = with_first(id, key);
-        put_row(alloc, source, f, vars, key, env, w, made, reads, probes)?;
+    'keys: for key in behind.later {
+        let key = with_first(behind.id, key);
+        put_row(alloc, scene, key, made, reads, probes)?;
     }
     Ok(())
 }
@@ -105,29 +122,36 @@ fn put_rows<'d, S: Temporal, I: Interpreter<S>, L: Ledger, M: Ledger>(
 // Adds the row of a key.
 fn put_row<'d, S: Temporal, I: Interpreter<S>, L: Ledger, M: Ledger>(
     alloc: Global,
-    source: &I,
-    f: &RFormula,
-    vars: &[u8],
+    scene: &Scene<'_, I>,
     key: Binding,
-    env: &Env,
-    w: Window,
     made: &mut Relation<'d, S>,
     reads: &mut Steps<L>,
     probes: &mut Steps<M>,
 ) -> Result<(), AllocError>
-    requires vars { vars.now ≡ variables_of (formula_view f.now) }
-    requires over { IsOver OBJECT_LIMIT (formula_view f.now) }
-    requires can { CanAsk (I.interpretation source.now) (I.atom_fits source.now w.lo w.hi)
-        (I.term_fits source.now w.lo w.hi) made.old.domains w.lo w.hi (formula_view f.now) env.now }
-    requires head { IsSameHead (table vars.now made.old.domains w.lo w.hi []) made.old }
-    requires inside { key_in made.old.domains vars.now key ≡ true }
+    requires vars { scene.now.variables.now ≡ variables_of (formula_view scene.now.formula.now) }
+    requires over { IsOver OBJECT_LIMIT (formula_view scene.now.formula.now) }
+    requires can { CanAsk (I.interpretation scene.now.source.now)
+        (I.atom_fits scene.now.source.now scene.now.window.lo scene.now.window.hi)
+        (I.term_fits scene.now.source.now scene.now.window.lo scene.now.window.hi) made.old.domains
+        scene.now.window.lo scene.now.window.hi
+        (formula_view scene.now.formula.now) scene.now.values.now }
+    requires head { IsSameHead
+        (table scene.now.variables.now made.old.domains scene.now.window.lo scene.now.window.hi []) made.old }
+    requires inside { key_in made.old.domains scene.now.variables.now key ≡ true }
     requires above { list_all (λ r. key_below r.key key) made.old.rows ≡ true }
-    ensures rows { OnOk result (IsFilled S.member (holds_at (I.interpretation source.now) vars.now w.lo w.hi
-        (formula_view f.now) env.now) (key ∷ []) made.old made.new) }
-    ensures reads { StepsAtMost reads.old reads.new (reads_here w.lo w.hi (formula_view f.now)) }
+    ensures rows { OnOk result (IsFilled S.member (holds_at (I.interpretation scene.now.source.now) scene.now.variables.now
+        scene.now.window.lo scene.now.window.hi (formula_view scene.now.formula.now) scene.now.values.now)
+        (key ∷ []) made.old made.new) }
+    ensures reads { StepsAtMost reads.old reads.new
+        (reads_here scene.now.window.lo scene.now.window.hi (formula_view scene.now.formula.now)) }
 {
-    let binding = binding_at(vars, &key);
-    let ticks = ticks_of(alloc, source, f, &binding, env, w, reads, probes)?;
+    let binding = binding_at(scene.variables, &key);
+    let here = Here {
+        source: scene.source,
+        binding: &binding,
+        values: scene.values,
+    };
+    let ticks = ticks_of(alloc, &here, scene.formula, scene.window, reads, probes)?;
     made.put(key, ticks)?;
     Ok(())
 }

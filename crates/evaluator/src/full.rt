@@ -14,7 +14,7 @@ ghost use Rattle.evaluator.specs.inner.Away.{AreAwayFor};
 ghost use Rattle.exact.specs.Lists.{SameLength};
 ghost use Rattle.steps.specs.Counting.{StepsAtMost};
 
-use crate::rows::rows_of;
+use crate::rows::{Asking, rows_of};
 use crate::variables::has_variable;
 use formula::{Binding, Env, RQuery};
 use interpreting::Interpreter;
@@ -24,6 +24,14 @@ use std::sync::ledger::Ledger;
 use steps::Steps;
 use tick_set::Window;
 use until_merge::Temporal;
+
+// A variable, what tells when its objects are there, and the window.
+#[derive(Drop)]
+struct Watched<'a, I> {
+    source: &'a I,
+    var: u8,
+    window: Window,
+}
 
 /// The rows of a query, over all its variables: for each binding of objects of their domains the ticks of the window
 /// at which all its objects are there and the formula holds. It fails only where memory is out.
@@ -45,10 +53,21 @@ pub fn full_rows<'d, S: Temporal, I: Interpreter<S>, L: Ledger, M: Ledger>(
         (is_full (I.interpretation source.now) (I.present source.now) (resolved_view q.now) w.hi) r) }
     ensures reads { StepsAtMost reads.old reads.new (query_reads_upto d.now w.lo w.hi (resolved_view q.now)) }
 {
-    let mut made = rows_of(alloc, source, &q.formula, d, &Env::new(), w, reads, probes)?;
+    let env = Env::new();
+    let asking = Asking {
+        source,
+        values: &env,
+        window: w,
+    };
+    let mut made = rows_of(alloc, &asking, &q.formula, d, reads, probes)?;
     let count = d.len() as u8;
     'vars: for var in 0..count {
-        let away = absence_for_rows(alloc, source, var, &made, d, w, reads)?;
+        let watched = Watched {
+            source,
+            var,
+            window: w,
+        };
+        let away = absence_for_rows(alloc, &watched, &made, d, reads)?;
         made = while_there(alloc, made, var, &away)?;
     }
     Ok(made)
@@ -58,26 +77,26 @@ pub fn full_rows<'d, S: Temporal, I: Interpreter<S>, L: Ledger, M: Ledger>(
 // variable alone, no other object is asked for.
 fn absence_for_rows<'d, S: Temporal, I: Interpreter<S>, L: Ledger>(
     alloc: Global,
-    source: &I,
-    var: u8,
+    watched: &Watched<'_, I>,
     rows: &Relation<'d, S>,
     d: &'d Domains,
-    w: Window,
     reads: &mut Steps<L>,
 ) -> Result<Relation<'d, S>, AllocError>
-    requires frame { HasFrame rows.now d.now w.lo w.hi }
-    requires known { var < length d.now }
-    requires objects { EachObjectOf d.now var (I.object_fits source.now w.lo w.hi) }
-    ensures ticks { IfOk result (AreAwayFor S.member (I.present source.now) w.lo w.hi var rows.now) }
-    ensures vars { IfOk result (λ r. r.vars ≡ var ∷ []) }
-    ensures frame { IfOk result (λ r. HasFrame r d.now w.lo w.hi) }
-    ensures reads { StepsAtMost reads.old reads.new (domain_size d.now var) }
+    requires frame { HasFrame rows.now d.now watched.now.window.lo watched.now.window.hi }
+    requires known { watched.now.var < length d.now }
+    requires objects { EachObjectOf d.now watched.now.var
+        (I.object_fits watched.now.source.now watched.now.window.lo watched.now.window.hi) }
+    ensures ticks { IfOk result (AreAwayFor S.member (I.present watched.now.source.now)
+        watched.now.window.lo watched.now.window.hi watched.now.var rows.now) }
+    ensures vars { IfOk result (λ r. r.vars ≡ watched.now.var ∷ []) }
+    ensures frame { IfOk result (λ r. HasFrame r d.now watched.now.window.lo watched.now.window.hi) }
+    ensures reads { StepsAtMost reads.old reads.new (domain_size d.now watched.now.var) }
 {
-    if rows.vars() == &[var][..] {
-        let away = absence_of_rows(alloc, source, var, rows, d, w, reads)?;
+    if rows.vars() == &[watched.var][..] {
+        let away = absence_of_rows(alloc, watched, rows, d, reads)?;
         Ok(away)
     } else {
-        let away = rows_of_absence(alloc, source, var, d, w, reads)?;
+        let away = rows_of_absence(alloc, watched, d, reads)?;
         Ok(away)
     }
 }
@@ -85,29 +104,31 @@ fn absence_for_rows<'d, S: Temporal, I: Interpreter<S>, L: Ledger>(
 // The same where the rows have this variable alone.
 fn absence_of_rows<'d, S: Temporal, I: Interpreter<S>, L: Ledger>(
     alloc: Global,
-    source: &I,
-    var: u8,
+    watched: &Watched<'_, I>,
     rows: &Relation<'d, S>,
     d: &'d Domains,
-    w: Window,
     reads: &mut Steps<L>,
 ) -> Result<Relation<'d, S>, AllocError>
-    requires frame { HasFrame rows.now d.now w.lo w.hi }
-    requires one { rows.now.vars ≡ var ∷ [] }
-    requires known { var < length d.now }
-    requires objects { EachObjectOf d.now var (I.object_fits source.now w.lo w.hi) }
-    ensures ticks { IfOk result (AreAwayFor S.member (I.present source.now) w.lo w.hi var rows.now) }
-    ensures vars { IfOk result (λ r. r.vars ≡ var ∷ []) }
-    ensures frame { IfOk result (λ r. HasFrame r d.now w.lo w.hi) }
-    ensures reads { StepsAtMost reads.old reads.new (domain_size d.now var) }
+    requires frame { HasFrame rows.now d.now watched.now.window.lo watched.now.window.hi }
+    requires one { rows.now.vars ≡ watched.now.var ∷ [] }
+    requires known { watched.now.var < length d.now }
+    requires objects { EachObjectOf d.now watched.now.var
+        (I.object_fits watched.now.source.now watched.now.window.lo watched.now.window.hi) }
+    ensures ticks { IfOk result (AreAwayFor S.member (I.present watched.now.source.now)
+        watched.now.window.lo watched.now.window.hi watched.now.var rows.now) }
+    ensures vars { IfOk result (λ r. r.vars ≡ watched.now.var ∷ []) }
+    ensures frame { IfOk result (λ r. HasFrame r d.now watched.now.window.lo watched.now.window.hi) }
+    ensures reads { StepsAtMost reads.old reads.new (domain_size d.now watched.now.var) }
 {
     rows.rows_stand_in_order();
     // Each domain ascends.
-    let _ = d.of(var);
-    let mut away = Relation::empty(alloc, &[var], d, w);
+    let _ = d.of(watched.var);
+    let mut away = Relation::empty(alloc, &[watched.var], d, watched.window);
     'places: for place in 0..rows.len() {
         let key = rows.key_at(place).unwrap();
-        let ticks = source.absence(alloc, key.get(0).unwrap_or(0), w, reads)?;
+        let ticks = watched
+            .source
+            .absence(alloc, key.get(0).unwrap_or(0), watched.window, reads)?;
         away.put(key, ticks)?;
     }
     Ok(away)
@@ -116,21 +137,20 @@ fn absence_of_rows<'d, S: Temporal, I: Interpreter<S>, L: Ledger>(
 // The ticks at which each object of a variable isn't there: no row of those that are there throughout, as most are.
 fn rows_of_absence<'d, S: Temporal, I: Interpreter<S>, L: Ledger>(
     alloc: Global,
-    source: &I,
-    var: u8,
+    watched: &Watched<'_, I>,
     d: &'d Domains,
-    w: Window,
     reads: &mut Steps<L>,
 ) -> Result<Relation<'d, S>, AllocError>
-    requires known { var < length d.now }
-    requires objects { EachObjectOf d.now var (I.object_fits source.now w.lo w.hi) }
-    ensures rows { IfOk result (λ r. AreRowsWhere S.member d.now w.lo w.hi (var ∷ [])
-        (λ b t. not (I.present source.now (b var) t)) r) }
-    ensures reads { StepsAtMost reads.old reads.new (domain_size d.now var) }
+    requires known { watched.now.var < length d.now }
+    requires objects { EachObjectOf d.now watched.now.var
+        (I.object_fits watched.now.source.now watched.now.window.lo watched.now.window.hi) }
+    ensures rows { IfOk result (λ r. AreRowsWhere S.member d.now watched.now.window.lo watched.now.window.hi
+        (watched.now.var ∷ []) (λ b t. not (I.present watched.now.source.now (b watched.now.var) t)) r) }
+    ensures reads { StepsAtMost reads.old reads.new (domain_size d.now watched.now.var) }
 {
-    let mut away = Relation::empty(alloc, &[var], d, w);
-    'ids: for id in d.of(var) {
-        let ticks = source.absence(alloc, *id, w, reads)?;
+    let mut away = Relation::empty(alloc, &[watched.var], d, watched.window);
+    'ids: for id in d.of(watched.var) {
+        let ticks = watched.source.absence(alloc, *id, watched.window, reads)?;
         away.put(key_of(*id), ticks)?;
     }
     Ok(away)

@@ -19,9 +19,10 @@ ghost use Rattle.evaluator.specs.inner.Seen.{IsInWindow};
 ghost use Rattle.steps.specs.Counting.{StepsAtMost};
 
 use crate::assignment::{Assignment, row_of_key};
-use crate::by_key::rows_by_key;
+use crate::by_key::{Scene, rows_by_key};
 use crate::column::{domains_for, leave_out};
 use crate::gathering::united;
+use crate::here::Here;
 use crate::keys::keys_of;
 use crate::narrowing::narrowed;
 use crate::node::{Node, Pair};
@@ -41,56 +42,103 @@ use steps::Steps;
 use tick_set::Window;
 use until_merge::Temporal;
 
+/// What is asked of atoms and terms, the values that are bound, and the window.
+#[derive(Drop)]
+pub struct Asking<'a, I> {
+    pub source: &'a I,
+    pub values: &'a Env,
+    pub window: Window,
+}
+
+// An assignment, what is asked of its atoms and terms, the values that are bound, and the window.
+#[derive(Drop)]
+struct Assigning<'a, I> {
+    source: &'a I,
+    assignment: &'a Assignment<'a>,
+    values: &'a Env,
+    window: Window,
+}
+
+// Variables with an object for each.
+#[derive(Clone, Copy)]
+struct Keyed<'a> {
+    variables: &'a [u8],
+    key: &'a Binding,
+}
+
+// A formula at the ticks of a section, what is asked of its atoms and terms, and the values that are bound.
+#[derive(Drop)]
+struct Sectioned<'a, I> {
+    source: &'a I,
+    formula: &'a RFormula,
+    section: Section,
+    values: &'a Env,
+}
+
 /// The rows of a formula, over its variables: for each binding of objects of their domains the ticks of the window at
 /// which it holds, where nothing after the window's last tick counts and these values are bound. It fails only where
 /// memory is out.
 #[cycle(rows)]
 pub fn rows_of<'d, S: Temporal, I: Interpreter<S>, L: Ledger, M: Ledger>(
     alloc: Global,
-    source: &I,
+    asking: &Asking<'_, I>,
     f: &RFormula,
     d: &'d Domains,
-    env: &Env,
-    w: Window,
     reads: &mut Steps<L>,
     probes: &mut Steps<M>,
 ) -> Result<Relation<'d, S>, AllocError>
     requires over { IsOver (length d.now) (formula_view f.now) }
-    requires can { CanAsk (I.interpretation source.now) (I.atom_fits source.now w.lo w.hi)
-        (I.term_fits source.now w.lo w.hi) d.now w.lo w.hi (formula_view f.now) env.now }
-    ensures rows { IfOk result (λ r. AreRowsOf S.member (I.interpretation source.now) d.now w.lo w.hi
-        (formula_view f.now) env.now r) }
-    ensures reads { StepsAtMost reads.old reads.new (reads_upto d.now w.lo w.hi (formula_view f.now)) }
+    requires can { CanAsk (I.interpretation asking.now.source.now)
+        (I.atom_fits asking.now.source.now asking.now.window.lo asking.now.window.hi)
+        (I.term_fits asking.now.source.now asking.now.window.lo asking.now.window.hi) d.now
+        asking.now.window.lo asking.now.window.hi (formula_view f.now) asking.now.values.now }
+    ensures rows { IfOk result (λ r. AreRowsOf S.member (I.interpretation asking.now.source.now) d.now
+        asking.now.window.lo asking.now.window.hi (formula_view f.now) asking.now.values.now r) }
+    ensures reads { StepsAtMost reads.old reads.new
+        (reads_upto d.now asking.now.window.lo asking.now.window.hi (formula_view f.now)) }
 {
     // The number of domains bounds the variables.
     let _ = d.len();
     let set = free(f);
     let vars = set.list();
     if is_over(f, vars, d) {
-        let made = rows_by_key(alloc, source, f, vars, d, env, w, reads, probes)?;
+        let scene = Scene {
+            source: asking.source,
+            formula: f,
+            variables: vars,
+            values: asking.values,
+            window: asking.window,
+        };
+        let made = rows_by_key(alloc, &scene, d, reads, probes)?;
         return Ok(made);
     }
     match Node::of(f) {
         Node::Truth(_) => unreachable!(),
         Node::Atom(_) => unreachable!(),
         Node::One(change, part) => {
-            let rows = rows_of(alloc, source, part, d, env, w, reads, probes)?;
+            let rows = rows_of(alloc, asking, part, d, reads, probes)?;
             let made = changed_rows(alloc, change, &rows)?;
             Ok(made)
         }
         Node::Two(pairing, left, right) => {
             if pairing.needs_right() {
                 let pair = Pair::ordered(pairing, left, right);
-                let led = rows_of_pair(alloc, source, &pair, d, env, w, reads, probes)?;
+                let led = rows_of_pair(alloc, asking, &pair, d, reads, probes)?;
                 return Ok(led);
             }
-            let left = rows_of(alloc, source, left, d, env, w, reads, probes)?;
-            let right = rows_of(alloc, source, right, d, env, w, reads, probes)?;
+            let left = rows_of(alloc, asking, left, d, reads, probes)?;
+            let right = rows_of(alloc, asking, right, d, reads, probes)?;
             let made = paired_rows(alloc, pairing, &left, &right)?;
             Ok(made)
         }
         Node::Assign(a) => {
-            let made = rows_of_assignment(alloc, source, &a, set, d, env, w, reads, probes)?;
+            let scene = Assigning {
+                source: asking.source,
+                assignment: &a,
+                values: asking.values,
+                window: asking.window,
+            };
+            let made = rows_of_assignment(alloc, &scene, set, d, reads, probes)?;
             Ok(made)
         }
     }
@@ -100,25 +148,26 @@ pub fn rows_of<'d, S: Temporal, I: Interpreter<S>, L: Ledger, M: Ledger>(
 #[cycle(rows)]
 fn rows_of_pair<'d, S: Temporal, I: Interpreter<S>, L: Ledger, M: Ledger>(
     alloc: Global,
-    source: &I,
+    asking: &Asking<'_, I>,
     pair: &Pair<'_>,
     d: &'d Domains,
-    env: &Env,
-    w: Window,
     reads: &mut Steps<L>,
     probes: &mut Steps<M>,
 ) -> Result<Relation<'d, S>, AllocError>
     requires needs { needs_right pair.now.pairing ≡ true }
     requires over { IsOver (length d.now) (pair_view pair.now) }
-    requires can { CanAsk (I.interpretation source.now) (I.atom_fits source.now w.lo w.hi)
-        (I.term_fits source.now w.lo w.hi) d.now w.lo w.hi (pair_view pair.now) env.now }
-    ensures rows { IfOk result (λ r. AreRowsOf S.member (I.interpretation source.now) d.now w.lo w.hi
-        (pair_view pair.now) env.now r) }
-    ensures reads { StepsAtMost reads.old reads.new (reads_upto d.now w.lo w.hi (pair_view pair.now)) }
+    requires can { CanAsk (I.interpretation asking.now.source.now)
+        (I.atom_fits asking.now.source.now asking.now.window.lo asking.now.window.hi)
+        (I.term_fits asking.now.source.now asking.now.window.lo asking.now.window.hi) d.now
+        asking.now.window.lo asking.now.window.hi (pair_view pair.now) asking.now.values.now }
+    ensures rows { IfOk result (λ r. AreRowsOf S.member (I.interpretation asking.now.source.now) d.now
+        asking.now.window.lo asking.now.window.hi (pair_view pair.now) asking.now.values.now r) }
+    ensures reads { StepsAtMost reads.old reads.new
+        (reads_upto d.now asking.now.window.lo asking.now.window.hi (pair_view pair.now)) }
 {
-    let right = rows_of(alloc, source, pair.right, d, env, w, reads, probes)?;
+    let right = rows_of(alloc, asking, pair.right, d, reads, probes)?;
     right.rows_stand_in_order();
-    let left = rows_beside(alloc, source, pair.left, &right, env, w, reads, probes)?;
+    let left = rows_beside(alloc, asking, pair.left, &right, reads, probes)?;
     let made = paired_rows(alloc, pair.pairing, &left, &right)?;
     Ok(made)
 }
@@ -127,30 +176,31 @@ fn rows_of_pair<'d, S: Temporal, I: Interpreter<S>, L: Ledger, M: Ledger>(
 #[cycle(rows)]
 fn rows_beside<'d, S: Temporal, I: Interpreter<S>, L: Ledger, M: Ledger>(
     alloc: Global,
-    source: &I,
+    asking: &Asking<'_, I>,
     f: &RFormula,
     other: &Relation<'d, S>,
-    env: &Env,
-    w: Window,
     reads: &mut Steps<L>,
     probes: &mut Steps<M>,
 ) -> Result<Relation<'d, S>, AllocError>
     requires over { IsOver (length other.now.domains) (formula_view f.now) }
-    requires can { CanAsk (I.interpretation source.now) (I.atom_fits source.now w.lo w.hi)
-        (I.term_fits source.now w.lo w.hi) other.now.domains w.lo w.hi (formula_view f.now) env.now }
-    ensures rows { IfOk result (AreRowsBeside S.member (I.interpretation source.now) other.now.domains w.lo w.hi
-        (formula_view f.now) env.now other.now) }
-    ensures reads { StepsAtMost reads.old reads.new (reads_upto other.now.domains w.lo w.hi (formula_view f.now)) }
+    requires can { CanAsk (I.interpretation asking.now.source.now)
+        (I.atom_fits asking.now.source.now asking.now.window.lo asking.now.window.hi)
+        (I.term_fits asking.now.source.now asking.now.window.lo asking.now.window.hi) other.now.domains
+        asking.now.window.lo asking.now.window.hi (formula_view f.now) asking.now.values.now }
+    ensures rows { IfOk result (AreRowsBeside S.member (I.interpretation asking.now.source.now) other.now.domains
+        asking.now.window.lo asking.now.window.hi (formula_view f.now) asking.now.values.now other.now) }
+    ensures reads { StepsAtMost reads.old reads.new
+        (reads_upto other.now.domains asking.now.window.lo asking.now.window.hi (formula_view f.now)) }
 {
     fewer_objects_take_fewer_looks();
     let d = other.domains();
     if leave_out(other, d) {
         let few = domains_for(alloc, other, d)?;
-        let near = rows_of(alloc, source, f, &few, env, w, reads, probes)?;
+        let near = rows_of(alloc, asking, f, &few, reads, probes)?;
         let wide = near.widen(alloc, d)?;
         return Ok(wide);
     }
-    let made = rows_of(alloc, source, f, d, env, w, reads, probes)?;
+    let made = rows_of(alloc, asking, f, d, reads, probes)?;
     Ok(made)
 }
 
@@ -158,33 +208,38 @@ fn rows_beside<'d, S: Temporal, I: Interpreter<S>, L: Ledger, M: Ledger>(
 #[cycle(rows)]
 fn rows_of_assignment<'d, S: Temporal, I: Interpreter<S>, L: Ledger, M: Ledger>(
     alloc: Global,
-    source: &I,
-    a: &Assignment<'_>,
+    scene: &Assigning<'_, I>,
     set: VarSet,
     d: &'d Domains,
-    env: &Env,
-    w: Window,
     reads: &mut Steps<L>,
     probes: &mut Steps<M>,
 ) -> Result<Relation<'d, S>, AllocError>
-    requires set { (v : ℕ) → v < OBJECT_LIMIT → set_has set v ≡ has_variable v (assignment_view a.now) }
-    requires over { IsOver (length d.now) (assignment_view a.now) }
-    requires can { CanAsk (I.interpretation source.now) (I.atom_fits source.now w.lo w.hi)
-        (I.term_fits source.now w.lo w.hi) d.now w.lo w.hi (assignment_view a.now) env.now }
-    ensures rows { IfOk result (λ r. AreRowsOf S.member (I.interpretation source.now) d.now w.lo w.hi
-        (assignment_view a.now) env.now r) }
-    ensures reads { StepsAtMost reads.old reads.new (reads_upto d.now w.lo w.hi (assignment_view a.now)) }
+    requires set { (v : ℕ) → v < OBJECT_LIMIT → set_has set v ≡ has_variable v (assignment_view scene.now.assignment.now) }
+    requires over { IsOver (length d.now) (assignment_view scene.now.assignment.now) }
+    requires can { CanAsk (I.interpretation scene.now.source.now)
+        (I.atom_fits scene.now.source.now scene.now.window.lo scene.now.window.hi)
+        (I.term_fits scene.now.source.now scene.now.window.lo scene.now.window.hi) d.now
+        scene.now.window.lo scene.now.window.hi
+        (assignment_view scene.now.assignment.now) scene.now.values.now }
+    ensures rows { IfOk result (λ r. AreRowsOf S.member (I.interpretation scene.now.source.now) d.now
+        scene.now.window.lo scene.now.window.hi (assignment_view scene.now.assignment.now) scene.now.values.now r) }
+    ensures reads { StepsAtMost reads.old reads.new
+        (reads_upto d.now scene.now.window.lo scene.now.window.hi (assignment_view scene.now.assignment.now)) }
 {
     // The number of domains bounds the variables.
     let _ = d.len();
-    let term_vars = free_in_term(a.term).list();
+    let term_vars = free_in_term(scene.assignment.term).list();
     let keys = keys_of(alloc, d, term_vars)?;
     let mut parts = VecDeque::new(alloc);
     'keys: for key in keys.items() {
-        let rows = rows_at_key(alloc, source, a, term_vars, key, d, env, w, reads, probes)?;
+        let keyed = Keyed {
+            variables: term_vars,
+            key,
+        };
+        let rows = rows_at_key(alloc, scene, &keyed, d, reads, probes)?;
         parts.push_back(rows)?;
     }
-    let made = united(alloc, parts, set, d, w)?;
+    let made = united(alloc, parts, set, d, scene.window)?;
     Ok(made)
 }
 
@@ -192,34 +247,41 @@ fn rows_of_assignment<'d, S: Temporal, I: Interpreter<S>, L: Ledger, M: Ledger>(
 #[cycle(rows)]
 fn rows_at_key<'d, S: Temporal, I: Interpreter<S>, L: Ledger, M: Ledger>(
     alloc: Global,
-    source: &I,
-    a: &Assignment<'_>,
-    term_vars: &[u8],
-    key: &Binding,
+    scene: &Assigning<'_, I>,
+    keyed: &Keyed<'_>,
     d: &'d Domains,
-    env: &Env,
-    w: Window,
     reads: &mut Steps<L>,
     probes: &mut Steps<M>,
 ) -> Result<Relation<'d, S>, AllocError>
-    requires vars { term_vars.now ≡ term_variables a.now.term.now }
-    requires key { key_in d.now term_vars.now key.now ≡ true }
-    requires over { IsOver (length d.now) (assignment_view a.now) }
-    requires can { CanAsk (I.interpretation source.now) (I.atom_fits source.now w.lo w.hi)
-        (I.term_fits source.now w.lo w.hi) d.now w.lo w.hi (assignment_view a.now) env.now }
-    ensures rows { IfOk result (λ r. AreRowsWhere S.member d.now w.lo w.hi (variables_of (assignment_view a.now))
-        (λ b t. agrees term_vars.now key.now b
-        && sat (I.interpretation source.now b) (assignment_view a.now) env.now w.hi t) r) }
-    ensures reads { StepsAtMost reads.old reads.new (reads_at_key d.now w.lo w.hi term_vars.now (formula_view a.now.body.now)) }
+    requires vars { keyed.now.variables.now ≡ term_variables scene.now.assignment.now.term.now }
+    requires key { key_in d.now keyed.now.variables.now keyed.now.key.now ≡ true }
+    requires over { IsOver (length d.now) (assignment_view scene.now.assignment.now) }
+    requires can { CanAsk (I.interpretation scene.now.source.now)
+        (I.atom_fits scene.now.source.now scene.now.window.lo scene.now.window.hi)
+        (I.term_fits scene.now.source.now scene.now.window.lo scene.now.window.hi) d.now
+        scene.now.window.lo scene.now.window.hi
+        (assignment_view scene.now.assignment.now) scene.now.values.now }
+    ensures rows { IfOk result (λ r. AreRowsWhere S.member d.now scene.now.window.lo scene.now.window.hi
+        (variables_of (assignment_view scene.now.assignment.now)) (λ b t. agrees keyed.now.variables.now keyed.now.key.now b
+        && sat (I.interpretation scene.now.source.now b) (assignment_view scene.now.assignment.now)
+        scene.now.values.now scene.now.window.hi t) r) }
+    ensures reads { StepsAtMost reads.old reads.new
+        (reads_at_key d.now scene.now.window.lo scene.now.window.hi keyed.now.variables.now
+        (formula_view scene.now.assignment.now.body.now)) }
 {
     // The number of domains bounds the variables.
     let _ = d.len();
-    let binding = binding_of(term_vars, key);
-    let runs = stretches_of(alloc, source, a, &binding, env, w, reads)?;
-    let narrow = narrowed(alloc, d, term_vars, key)?;
-    let rows = rows_of_runs(alloc, source, a, &runs, &narrow, env, w, reads, probes)?;
+    let binding = binding_of(keyed.variables, keyed.key);
+    let here = Here {
+        source: scene.source,
+        binding: &binding,
+        values: scene.values,
+    };
+    let runs = stretches_of(alloc, &here, scene.assignment, scene.window, reads)?;
+    let narrow = narrowed(alloc, d, keyed.variables, keyed.key)?;
+    let rows = rows_of_runs(alloc, scene, &runs, &narrow, reads, probes)?;
     let rows = rows.widen(alloc, d)?;
-    let own = row_of_key(alloc, term_vars, key, d, w)?;
+    let own = row_of_key(alloc, keyed.variables, keyed.key, d, scene.window)?;
     let made = own.join(alloc, &rows)?;
     Ok(made)
 }
@@ -228,34 +290,44 @@ fn rows_at_key<'d, S: Temporal, I: Interpreter<S>, L: Ledger, M: Ledger>(
 #[cycle(rows)]
 fn rows_of_runs<'d, S: Temporal, I: Interpreter<S>, L: Ledger, M: Ledger>(
     alloc: Global,
-    source: &I,
-    a: &Assignment<'_>,
+    scene: &Assigning<'_, I>,
     runs: &[ValueRun],
     d: &'d Domains,
-    env: &Env,
-    w: Window,
     reads: &mut Steps<L>,
     probes: &mut Steps<M>,
 ) -> Result<Relation<'d, S>, AllocError>
-    requires over { IsOver (length d.now) (formula_view a.now.body.now) }
-    requires inside { All (IsInWindow w.lo w.hi) runs.now }
-    requires can { CanAskEach (I.interpretation source.now) (I.atom_fits source.now w.lo w.hi)
-        (I.term_fits source.now w.lo w.hi) d.now w.lo w.hi a.now.depth (formula_view a.now.body.now) env.now runs.now }
-    ensures rows { IfOk result (λ r. AreRowsWhere S.member d.now w.lo w.hi (variables_of (formula_view a.now.body.now))
-        (run_holds (I.interpretation source.now) a.now.depth (formula_view a.now.body.now) env.now w.hi runs.now) r) }
-    ensures reads { StepsAtMost reads.old reads.new (length runs.now * reads_upto d.now w.lo w.hi (formula_view a.now.body.now)) }
+    requires over { IsOver (length d.now) (formula_view scene.now.assignment.now.body.now) }
+    requires inside { All (IsInWindow scene.now.window.lo scene.now.window.hi) runs.now }
+    requires can { CanAskEach (I.interpretation scene.now.source.now)
+        (I.atom_fits scene.now.source.now scene.now.window.lo scene.now.window.hi)
+        (I.term_fits scene.now.source.now scene.now.window.lo scene.now.window.hi) d.now
+        scene.now.window.lo scene.now.window.hi
+        scene.now.assignment.now.depth (formula_view scene.now.assignment.now.body.now) scene.now.values.now runs.now }
+    ensures rows { IfOk result (λ r. AreRowsWhere S.member d.now scene.now.window.lo scene.now.window.hi
+        (variables_of (formula_view scene.now.assignment.now.body.now)) (run_holds (I.interpretation scene.now.source.now)
+        scene.now.assignment.now.depth (formula_view scene.now.assignment.now.body.now) scene.now.values.now
+        scene.now.window.hi runs.now) r) }
+    ensures reads { StepsAtMost reads.old reads.new
+        (length runs.now
+        * reads_upto d.now scene.now.window.lo scene.now.window.hi (formula_view scene.now.assignment.now.body.now)) }
 {
     let mut parts = VecDeque::new(alloc);
     'runs: for run in runs {
-        let bound = env.with(a.depth, run.value);
+        let bound = scene.values.with(scene.assignment.depth, run.value);
         let section = Section {
             span: run.span,
-            window: w,
+            window: scene.window,
         };
-        let part = rows_of_section(alloc, source, a.body, section, d, &bound, reads, probes)?;
+        let sectioned = Sectioned {
+            source: scene.source,
+            formula: scene.assignment.body,
+            section,
+            values: &bound,
+        };
+        let part = rows_of_section(alloc, &sectioned, d, reads, probes)?;
         parts.push_back(part)?;
     }
-    let made = united(alloc, parts, free(a.body), d, w)?;
+    let made = united(alloc, parts, free(scene.assignment.body), d, scene.window)?;
     Ok(made)
 }
 
@@ -263,25 +335,30 @@ fn rows_of_runs<'d, S: Temporal, I: Interpreter<S>, L: Ledger, M: Ledger>(
 #[cycle(rows)]
 fn rows_of_section<'d, S: Temporal, I: Interpreter<S>, L: Ledger, M: Ledger>(
     alloc: Global,
-    source: &I,
-    f: &RFormula,
-    section: Section,
+    part: &Sectioned<'_, I>,
     d: &'d Domains,
-    env: &Env,
     reads: &mut Steps<L>,
     probes: &mut Steps<M>,
 ) -> Result<Relation<'d, S>, AllocError>
-    requires over { IsOver (length d.now) (formula_view f.now) }
-    requires can { CanAsk (I.interpretation source.now) (I.atom_fits source.now section.window.lo section.window.hi)
-        (I.term_fits source.now section.window.lo section.window.hi) d.now section.window.lo section.window.hi
-        (formula_view f.now) env.now }
-    ensures rows { IfOk result (λ r. AreRowsWhere S.member d.now section.window.lo section.window.hi
-        (variables_of (formula_view f.now)) (λ b t. within section.span.lo section.span.hi t
-        && sat (I.interpretation source.now b) (formula_view f.now) env.now section.window.hi t) r) }
-    ensures reads { StepsAtMost reads.old reads.new (reads_upto d.now section.window.lo section.window.hi (formula_view f.now)) }
+    requires over { IsOver (length d.now) (formula_view part.now.formula.now) }
+    requires can { CanAsk (I.interpretation part.now.source.now)
+        (I.atom_fits part.now.source.now part.now.section.window.lo part.now.section.window.hi)
+        (I.term_fits part.now.source.now part.now.section.window.lo part.now.section.window.hi) d.now
+        part.now.section.window.lo part.now.section.window.hi (formula_view part.now.formula.now) part.now.values.now }
+    ensures rows { IfOk result (λ r. AreRowsWhere S.member d.now part.now.section.window.lo part.now.section.window.hi
+        (variables_of (formula_view part.now.formula.now)) (λ b t. within part.now.section.span.lo part.now.section.span.hi t
+        && sat (I.interpretation part.now.source.now b) (formula_view part.now.formula.now) part.now.values.now
+        part.now.section.window.hi t) r) }
+    ensures reads { StepsAtMost reads.old reads.new
+        (reads_upto d.now part.now.section.window.lo part.now.section.window.hi (formula_view part.now.formula.now)) }
 {
-    let w = section.seen_by(f);
-    let rows = rows_of(alloc, source, f, d, env, w, reads, probes)?;
-    let made = rows_at(alloc, &rows, section, d)?;
+    let w = part.section.seen_by(part.formula);
+    let asking = Asking {
+        source: part.source,
+        values: part.values,
+        window: w,
+    };
+    let rows = rows_of(alloc, &asking, part.formula, d, reads, probes)?;
+    let made = rows_at(alloc, &rows, part.section, d)?;
     Ok(made)
 }

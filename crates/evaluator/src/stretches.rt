@@ -10,8 +10,8 @@ ghost use Rattle.evaluator.specs.Stretched.{AreStretches, IsStretch};
 ghost use Rattle.steps.specs.Counting.{StepsAtMost};
 
 use crate::assignment::Assignment;
+use crate::here::Here;
 use crate::naming::formula_names;
-use formula::{Binding, Env};
 use interpreting::{Interpreter, ValueRun};
 use std::alloc::{AllocError, Global};
 use std::sync::ledger::Ledger;
@@ -23,19 +23,21 @@ use until_merge::Temporal;
 // formula is evaluated once for them all.
 pub(crate) fn stretches_of<S: Temporal, I: Interpreter<S>, L: Ledger>(
     alloc: Global,
-    source: &I,
+    here: &Here<'_, I>,
     a: &Assignment<'_>,
-    binding: &Binding,
-    env: &Env,
     w: Window,
     reads: &mut Steps<L>,
 ) -> Result<Vec<ValueRun>, AllocError>
-    requires { I.term_fits source.now w.lo w.hi (slice_index binding.now) a.now.term.now env.now }
+    requires { I.term_fits here.now.source.now w.lo w.hi (slice_index here.now.binding.now) a.now.term.now
+        here.now.values.now }
     ensures runs { IfOk result (λ runs. AreStretches (formula_uses_value a.now.depth (formula_view a.now.body.now))
-        ((I.interpretation source.now (slice_index binding.now)).term a.now.term.now env.now) w.lo (w.hi + 1) runs.items) }
+        ((I.interpretation here.now.source.now (slice_index here.now.binding.now)).term a.now.term.now
+        here.now.values.now) w.lo (w.hi + 1) runs.items) }
     ensures reads { StepsAtMost reads.old reads.new (length (term_variables a.now.term.now)) }
 {
-    let runs = source.runs(alloc, a.term, binding, env, w, reads)?;
+    let runs = here
+        .source
+        .runs(alloc, a.term, here.binding, here.values, w, reads)?;
     if formula_names(a.body, a.depth) {
         return Ok(runs);
     }

@@ -10,12 +10,13 @@ ghost use Rattle.evaluator.specs.inner.ByBinding.{AreTicksOf, CanAskHere, reads_
 ghost use Rattle.steps.specs.Counting.{StepsAtMost};
 
 use crate::assignment::Assignment;
+use crate::here::Here;
 use crate::node::{Node, Pairing};
 use crate::section::Section;
 use crate::sets::{changed, paired, union_of};
 use crate::stretches::stretches_of;
 use fixed_point::UntilForm;
-use formula::{Binding, Env, RFormula};
+use formula::RFormula;
 use interpreting::Interpreter;
 use std::alloc::{AllocError, Global};
 use std::collections::VecDeque;
@@ -24,23 +25,32 @@ use steps::Steps;
 use tick_set::{TickSet, Window};
 use until_merge::Temporal;
 
+// UNTIL by its form, with its two formulas.
+#[derive(Clone, Copy)]
+struct Until<'a> {
+    form: UntilForm,
+    number: u32,
+    guard: &'a RFormula,
+    goal: &'a RFormula,
+}
+
 // The ticks of the window at which a formula holds at a binding.
 #[cycle(ticks)]
 pub(crate) fn ticks_of<S: Temporal, I: Interpreter<S>, L: Ledger, M: Ledger>(
     alloc: Global,
-    source: &I,
+    here: &Here<'_, I>,
     f: &RFormula,
-    binding: &Binding,
-    env: &Env,
     w: Window,
     reads: &mut Steps<L>,
     probes: &mut Steps<M>,
 ) -> Result<S, AllocError>
-    requires { CanAskHere (I.interpretation source.now (slice_index binding.now))
-        (I.atom_fits source.now w.lo w.hi (slice_index binding.now))
-        (I.term_fits source.now w.lo w.hi (slice_index binding.now)) w.lo w.hi (formula_view f.now) env.now }
-    ensures ticks { IfOk result (AreTicksOf S.member (I.interpretation source.now (slice_index binding.now))
-        w.lo w.hi (formula_view f.now) env.now) }
+    requires { CanAskHere (I.interpretation here.now.source.now (slice_index here.now.binding.now))
+        (I.atom_fits here.now.source.now w.lo w.hi (slice_index here.now.binding.now))
+        (I.term_fits here.now.source.now w.lo w.hi (slice_index here.now.binding.now)) w.lo w.hi
+        (formula_view f.now) here.now.values.now }
+    ensures ticks { IfOk result (AreTicksOf S.member
+        (I.interpretation here.now.source.now (slice_index here.now.binding.now)) w.lo w.hi
+        (formula_view f.now) here.now.values.now) }
     ensures reads { StepsAtMost reads.old reads.new (reads_here w.lo w.hi (formula_view f.now)) }
 {
     match Node::of(f) {
@@ -49,31 +59,37 @@ pub(crate) fn ticks_of<S: Temporal, I: Interpreter<S>, L: Ledger, M: Ledger>(
             Ok(made)
         }
         Node::Atom(atom) => {
-            let made = source.atom(alloc, atom, binding, env, w, reads, probes)?;
+            let made = here
+                .source
+                .atom(alloc, atom, here.binding, here.values, w, reads, probes)?;
             Ok(made)
         }
         Node::One(change, part) => {
-            let ticks = ticks_of(alloc, source, part, binding, env, w, reads, probes)?;
+            let ticks = ticks_of(alloc, here, part, w, reads, probes)?;
             let made = changed(alloc, change, &ticks, w)?;
             Ok(made)
         }
         Node::Two(pairing, left, right) => {
             if let Pairing::Until(form, c) = pairing {
-                let led = ticks_of_until(
-                    alloc, source, form, c, left, right, binding, env, w, reads, probes,
-                )?;
+                let until = Until {
+                    form,
+                    number: c,
+                    guard: left,
+                    goal: right,
+                };
+                let led = ticks_of_until(alloc, here, &until, w, reads, probes)?;
                 return Ok(led);
             }
-            let left = ticks_of(alloc, source, left, binding, env, w, reads, probes)?;
+            let left = ticks_of(alloc, here, left, w, reads, probes)?;
             if pairing.needs_left() && left.is_empty() {
                 return Ok(left);
             }
-            let right = ticks_of(alloc, source, right, binding, env, w, reads, probes)?;
+            let right = ticks_of(alloc, here, right, w, reads, probes)?;
             let made = paired(alloc, pairing, &left, &right, w)?;
             Ok(made)
         }
         Node::Assign(a) => {
-            let made = ticks_of_assignment(alloc, source, &a, binding, env, w, reads, probes)?;
+            let made = ticks_of_assignment(alloc, here, &a, w, reads, probes)?;
             Ok(made)
         }
     }
@@ -83,32 +99,37 @@ pub(crate) fn ticks_of<S: Temporal, I: Interpreter<S>, L: Ledger, M: Ledger>(
 #[cycle(ticks)]
 fn ticks_of_until<S: Temporal, I: Interpreter<S>, L: Ledger, M: Ledger>(
     alloc: Global,
-    source: &I,
-    form: UntilForm,
-    c: u32,
-    guard: &RFormula,
-    goal: &RFormula,
-    binding: &Binding,
-    env: &Env,
+    here: &Here<'_, I>,
+    until: &Until<'_>,
     w: Window,
     reads: &mut Steps<L>,
     probes: &mut Steps<M>,
 ) -> Result<S, AllocError>
-    requires { CanAskHere (I.interpretation source.now (slice_index binding.now))
-        (I.atom_fits source.now w.lo w.hi (slice_index binding.now))
-        (I.term_fits source.now w.lo w.hi (slice_index binding.now)) w.lo w.hi
-        (Shape.Until form c (formula_view guard.now) (formula_view goal.now)) env.now }
-    ensures ticks { IfOk result (AreTicksOf S.member (I.interpretation source.now (slice_index binding.now))
-        w.lo w.hi (Shape.Until form c (formula_view guard.now) (formula_view goal.now)) env.now) }
+    requires { CanAskHere (I.interpretation here.now.source.now (slice_index here.now.binding.now))
+        (I.atom_fits here.now.source.now w.lo w.hi (slice_index here.now.binding.now))
+        (I.term_fits here.now.source.now w.lo w.hi (slice_index here.now.binding.now)) w.lo w.hi
+        (Shape.Until until.now.form until.now.number (formula_view until.now.guard.now) (formula_view until.now.goal.now))
+        here.now.values.now }
+    ensures ticks { IfOk result (AreTicksOf S.member
+        (I.interpretation here.now.source.now (slice_index here.now.binding.now)) w.lo w.hi
+        (Shape.Until until.now.form until.now.number (formula_view until.now.guard.now) (formula_view until.now.goal.now))
+        here.now.values.now) }
     ensures reads { StepsAtMost reads.old reads.new
-        (reads_here w.lo w.hi (Shape.Until form c (formula_view guard.now) (formula_view goal.now))) }
+        (reads_here w.lo w.hi (Shape.Until until.now.form until.now.number
+        (formula_view until.now.guard.now) (formula_view until.now.goal.now))) }
 {
-    let goals = ticks_of(alloc, source, goal, binding, env, w, reads, probes)?;
+    let goals = ticks_of(alloc, here, until.goal, w, reads, probes)?;
     if goals.is_empty() {
         return Ok(goals);
     }
-    let guards = ticks_of(alloc, source, guard, binding, env, w, reads, probes)?;
-    let made = paired(alloc, Pairing::Until(form, c), &guards, &goals, w)?;
+    let guards = ticks_of(alloc, here, until.guard, w, reads, probes)?;
+    let made = paired(
+        alloc,
+        Pairing::Until(until.form, until.number),
+        &guards,
+        &goals,
+        w,
+    )?;
     Ok(made)
 }
 
@@ -128,32 +149,35 @@ fn ticks_of_truth<S: TickSet>(alloc: Global, holds: bool, w: Window) -> Result<S
 #[cycle(ticks)]
 fn ticks_of_assignment<S: Temporal, I: Interpreter<S>, L: Ledger, M: Ledger>(
     alloc: Global,
-    source: &I,
+    here: &Here<'_, I>,
     a: &Assignment<'_>,
-    binding: &Binding,
-    env: &Env,
     w: Window,
     reads: &mut Steps<L>,
     probes: &mut Steps<M>,
 ) -> Result<S, AllocError>
-    requires { CanAskHere (I.interpretation source.now (slice_index binding.now))
-        (I.atom_fits source.now w.lo w.hi (slice_index binding.now))
-        (I.term_fits source.now w.lo w.hi (slice_index binding.now)) w.lo w.hi (assignment_view a.now) env.now }
-    ensures ticks { IfOk result (AreTicksOf S.member (I.interpretation source.now (slice_index binding.now))
-        w.lo w.hi (assignment_view a.now) env.now) }
+    requires { CanAskHere (I.interpretation here.now.source.now (slice_index here.now.binding.now))
+        (I.atom_fits here.now.source.now w.lo w.hi (slice_index here.now.binding.now))
+        (I.term_fits here.now.source.now w.lo w.hi (slice_index here.now.binding.now)) w.lo w.hi
+        (assignment_view a.now) here.now.values.now }
+    ensures ticks { IfOk result (AreTicksOf S.member
+        (I.interpretation here.now.source.now (slice_index here.now.binding.now)) w.lo w.hi
+        (assignment_view a.now) here.now.values.now) }
     ensures reads { StepsAtMost reads.old reads.new (reads_here w.lo w.hi (assignment_view a.now)) }
 {
-    let runs = stretches_of(alloc, source, a, binding, env, w, reads)?;
+    let runs = stretches_of(alloc, here, a, w, reads)?;
     let mut parts = VecDeque::new(alloc);
     'each: for run in &runs {
-        let bound = env.with(a.depth, run.value);
+        let bound = here.values.with(a.depth, run.value);
+        let inner = Here {
+            source: here.source,
+            binding: here.binding,
+            values: &bound,
+        };
         let section = Section {
             span: run.span,
             window: w,
         };
-        let part: S = ticks_of_section(
-            alloc, source, a.body, section, binding, &bound, reads, probes,
-        )?;
+        let part: S = ticks_of_section(alloc, &inner, a.body, section, reads, probes)?;
         parts.push_back(part)?;
     }
     let made = union_of(alloc, parts)?;
@@ -164,24 +188,23 @@ fn ticks_of_assignment<S: Temporal, I: Interpreter<S>, L: Ledger, M: Ledger>(
 #[cycle(ticks)]
 fn ticks_of_section<S: Temporal, I: Interpreter<S>, L: Ledger, M: Ledger>(
     alloc: Global,
-    source: &I,
+    here: &Here<'_, I>,
     f: &RFormula,
     section: Section,
-    binding: &Binding,
-    env: &Env,
     reads: &mut Steps<L>,
     probes: &mut Steps<M>,
 ) -> Result<S, AllocError>
-    requires { CanAskHere (I.interpretation source.now (slice_index binding.now))
-        (I.atom_fits source.now section.window.lo section.window.hi (slice_index binding.now))
-        (I.term_fits source.now section.window.lo section.window.hi (slice_index binding.now))
-        section.window.lo section.window.hi (formula_view f.now) env.now }
+    requires { CanAskHere (I.interpretation here.now.source.now (slice_index here.now.binding.now))
+        (I.atom_fits here.now.source.now section.window.lo section.window.hi (slice_index here.now.binding.now))
+        (I.term_fits here.now.source.now section.window.lo section.window.hi (slice_index here.now.binding.now))
+        section.window.lo section.window.hi (formula_view f.now) here.now.values.now }
     ensures ticks { IfOk result (λ s. (t : ℕ) → S.member s t ≡ (within section.span.lo section.span.hi t
-        && sat (I.interpretation source.now (slice_index binding.now)) (formula_view f.now) env.now section.window.hi t)) }
+        && sat (I.interpretation here.now.source.now (slice_index here.now.binding.now)) (formula_view f.now)
+        here.now.values.now section.window.hi t)) }
     ensures reads { StepsAtMost reads.old reads.new (reads_here section.window.lo section.window.hi (formula_view f.now)) }
 {
     let w = section.seen_by(f);
-    let ticks: S = ticks_of(alloc, source, f, binding, env, w, reads, probes)?;
+    let ticks: S = ticks_of(alloc, here, f, w, reads, probes)?;
     let made = ticks.clip(alloc, section.span.window())?;
     Ok(made)
 }

@@ -14,27 +14,27 @@ use Rattle.evaluator.proofs.by_key.put_row.Goals as goal
 
 pub ticks_of-requires : goal.ticks_of-requires
 ticks_of-requires g c =
-    let f = formula_view c.args.f.now in
-    let vars = c.args.vars.now in
+    let f = formula_view c.args.scene.now.formula.now in
+    let vars = c.args.scene.now.variables.now in
     let here : IsInFor c.args.made.now.domains (λ v. has_variable v f) (slice_index (binding_of vars c.args.key)) =
     inside_at (λ v. has_variable v f) c.requires.over vars c.requires.vars c.args.made.now.domains c.args.key c.requires.inside in
-    subst (λ (b : ℕ → ℕ). CanAskHere (g.I.Interpreter.interpretation c.args.source.now b) (g.I.Interpreter.atom_fits c.args.source.now c.args.w.lo c.args.w.hi b) (g.I.Interpreter.term_fits c.args.source.now c.args.w.lo c.args.w.hi b) c.args.w.lo c.args.w.hi f c.args.env.now)
+    subst (λ (b : ℕ → ℕ). CanAskHere (g.I.Interpreter.interpretation c.args.scene.now.source.now b) (g.I.Interpreter.atom_fits c.args.scene.now.source.now c.args.scene.now.window.lo c.args.scene.now.window.hi b) (g.I.Interpreter.term_fits c.args.scene.now.source.now c.args.scene.now.window.lo c.args.scene.now.window.hi b) c.args.scene.now.window.lo c.args.scene.now.window.hi f c.args.scene.now.values.now)
     (sym c.binding_at-binding.ensures)
-    (can_ask_at (g.I.Interpreter.interpretation c.args.source.now) (g.I.Interpreter.atom_fits c.args.source.now c.args.w.lo c.args.w.hi) (g.I.Interpreter.term_fits c.args.source.now c.args.w.lo c.args.w.hi) c.args.made.now.domains c.args.w.lo c.args.w.hi (slice_index (binding_of vars c.args.key)) f c.args.env.now c.requires.can here)
+    (can_ask_at (g.I.Interpreter.interpretation c.args.scene.now.source.now) (g.I.Interpreter.atom_fits c.args.scene.now.source.now c.args.scene.now.window.lo c.args.scene.now.window.hi) (g.I.Interpreter.term_fits c.args.scene.now.source.now c.args.scene.now.window.lo c.args.scene.now.window.hi) c.args.made.now.domains c.args.scene.now.window.lo c.args.scene.now.window.hi (slice_index (binding_of vars c.args.key)) f c.args.scene.now.values.now c.requires.can here)
 
 pub put-requires-clause-inside : goal.put-requires-clause-inside
 put-requires-clause-inside g c =
-    fits_inside (table c.args.vars.now c.args.made.now.domains c.args.w.lo c.args.w.hi []) c.args.made.now c.requires.head c.args.vars.now c.args.made.now.domains c.args.w.lo c.args.w.hi refl c.args.key c.requires.inside
+    fits_inside (table c.args.scene.now.variables.now c.args.made.now.domains c.args.scene.now.window.lo c.args.scene.now.window.hi []) c.args.made.now c.requires.head c.args.scene.now.variables.now c.args.made.now.domains c.args.scene.now.window.lo c.args.scene.now.window.hi refl c.args.key c.requires.inside
 
 pub put-requires-clause-lies : goal.put-requires-clause-lies
 put-requires-clause-lies g c =
-    fits_lies (table c.args.vars.now c.args.made.now.domains c.args.w.lo c.args.w.hi []) c.args.made.now c.requires.head c.args.vars.now c.args.made.now.domains c.args.w.lo c.args.w.hi refl g.S.TickSet.member c.in_ok-ticks.ticks
-    (sat (g.I.Interpreter.interpretation c.args.source.now (slice_index c.binding_at-binding.result)) (formula_view c.args.f.now) c.args.env.now c.args.w.hi) c.in_ok-ticks.ensures.ticks
+    fits_lies (table c.args.scene.now.variables.now c.args.made.now.domains c.args.scene.now.window.lo c.args.scene.now.window.hi []) c.args.made.now c.requires.head c.args.scene.now.variables.now c.args.made.now.domains c.args.scene.now.window.lo c.args.scene.now.window.hi refl g.S.TickSet.member c.in_ok-ticks.ticks
+    (sat (g.I.Interpreter.interpretation c.args.scene.now.source.now (slice_index c.binding_at-binding.result)) (formula_view c.args.scene.now.formula.now) c.args.scene.now.values.now c.args.scene.now.window.hi) c.in_ok-ticks.ensures.ticks
 
 pub returns-clause-rows : goal.returns-clause-rows
 returns-clause-rows g c =
-    filled_put g.S.TickSet.member (holds_at (g.I.Interpreter.interpretation c.args.source.now) c.args.vars.now c.args.w.lo c.args.w.hi (formula_view c.args.f.now) c.args.env.now)
+    filled_put g.S.TickSet.member (holds_at (g.I.Interpreter.interpretation c.args.scene.now.source.now) c.args.scene.now.variables.now c.args.scene.now.window.lo c.args.scene.now.window.hi (formula_view c.args.scene.now.formula.now) c.args.scene.now.values.now)
     c.args.key c.in_ok-ticks.ticks c.args.made.now c.put.new.self
     (λ t. c.in_ok-ticks.ensures.ticks t
-    ∙ ap (λ (b : ℕ → ℕ). within c.args.w.lo c.args.w.hi t && sat (g.I.Interpreter.interpretation c.args.source.now b) (formula_view c.args.f.now) c.args.env.now c.args.w.hi t) c.binding_at-binding.ensures)
+    ∙ ap (λ (b : ℕ → ℕ). within c.args.scene.now.window.lo c.args.scene.now.window.hi t && sat (g.I.Interpreter.interpretation c.args.scene.now.source.now b) (formula_view c.args.scene.now.formula.now) c.args.scene.now.values.now c.args.scene.now.window.hi t) c.binding_at-binding.ensures)
     c.in_ok-put.ensures.head c.in_ok-put.ensures.ticks c.in_ok-put.ensures.keys

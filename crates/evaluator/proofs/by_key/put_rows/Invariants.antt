@@ -6,8 +6,8 @@ use Rattle.evaluator.proofs.by_key.put_rows.Given as goal
 
 abbrev pub invariant-keys : goal.invariant-keys
 invariant-keys g l = record {
-  rows : IsFilled g.S.TickSet.member (holds_at (g.I.Interpreter.interpretation l.source) l.vars l.w.lo l.w.hi (formula_view l.f) l.env)
-      (keys_behind l.id (take l.key-index l.later)) l.initial.made l.made;
+  rows : IsFilled g.S.TickSet.member (holds_at (g.I.Interpreter.interpretation l.scene.source.now) l.scene.variables.now l.scene.window.lo l.scene.window.hi (formula_view l.scene.formula.now) l.scene.values.now)
+      (keys_behind l.behind.id (take l.key-index l.behind.later.now)) l.initial.made l.made;
   least : l.initial.reads ≤ l.reads;
-  most : l.reads ≤ l.initial.reads + l.key-index * reads_here l.w.lo l.w.hi (formula_view l.f);
+  most : l.reads ≤ l.initial.reads + l.key-index * reads_here l.scene.window.lo l.scene.window.hi (formula_view l.scene.formula.now);
 }

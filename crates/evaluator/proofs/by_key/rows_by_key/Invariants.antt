@@ -7,8 +7,8 @@ use Rattle.evaluator.proofs.by_key.rows_by_key.Given as goal
 
 abbrev pub invariant-ids : goal.invariant-ids
 invariant-ids g l = record {
-  rows : IsFilled g.S.TickSet.member (holds_at (g.I.Interpreter.interpretation l.source) l.vars l.w.lo l.w.hi (formula_view l.f) l.env)
+  rows : IsFilled g.S.TickSet.member (holds_at (g.I.Interpreter.interpretation l.scene.source.now) l.scene.variables.now l.scene.window.lo l.scene.window.hi (formula_view l.scene.formula.now) l.scene.values.now)
       (flat_map (λ id. keys_behind id l.later) (take l.id-index l.id-items)) l.initial.made l.made;
   least : l.initial.reads ≤ l.reads;
-  most : l.reads ≤ l.initial.reads + (l.id-index * length l.later) * reads_here l.w.lo l.w.hi (formula_view l.f);
+  most : l.reads ≤ l.initial.reads + (l.id-index * length l.later) * reads_here l.scene.window.lo l.scene.window.hi (formula_view l.scene.formula.now);
 }

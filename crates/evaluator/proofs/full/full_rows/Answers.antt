@@ -18,7 +18,7 @@ rows_of-requires-clause-over g c = c.requires.over
 
 pub rows_of-requires-clause-can : goal.rows_of-requires-clause-can
 rows_of-requires-clause-can g c =
-    subst (λ (x : Env). CanAsk (g.I.Interpreter.interpretation c.args.source.now) (g.I.Interpreter.atom_fits c.args.source.now c.args.w.lo c.args.w.hi) (g.I.Interpreter.term_fits c.args.source.now c.args.w.lo c.args.w.hi) c.args.d.now c.args.w.lo c.args.w.hi (formula_view c.args.q.now.formula) x) (sym c.new.ensures) c.requires.can
+    subst (λ (x : Env). CanAsk (g.I.Interpreter.interpretation c.args.source.now) (g.I.Interpreter.atom_fits c.args.source.now c.args.w.lo c.args.w.hi) (g.I.Interpreter.term_fits c.args.source.now c.args.w.lo c.args.w.hi) c.args.d.now c.args.w.lo c.args.w.hi (formula_view c.args.q.now.formula) x) (sym c.new-env.ensures) c.requires.can
 
 pub returns-in_err-made-clause-reads : goal.returns-in_err-made-clause-reads
 returns-in_err-made-clause-reads g c = record {
@@ -29,7 +29,7 @@ returns-in_err-made-clause-reads g c = record {
 pub vars-init : goal.vars-init
 vars-init g c = record {
   rows = full_none g.S.TickSet.member c.args.d.now c.args.w.lo c.args.w.hi (formula_view c.args.q.now.formula) (λ (b : ℕ → ℕ) (u : ℕ). sat (g.I.Interpreter.interpretation c.args.source.now b) (formula_view c.args.q.now.formula) no_values c.args.w.hi u) (g.I.Interpreter.present c.args.source.now) c.in_ok-made.made
-      (subst (λ (x : Env). AreRowsOf g.S.TickSet.member (g.I.Interpreter.interpretation c.args.source.now) c.args.d.now c.args.w.lo c.args.w.hi (formula_view c.args.q.now.formula) x c.in_ok-made.made) c.new.ensures c.in_ok-made.ensures.rows);
+      (subst (λ (x : Env). AreRowsOf g.S.TickSet.member (g.I.Interpreter.interpretation c.args.source.now) c.args.d.now c.args.w.lo c.args.w.hi (formula_view c.args.q.now.formula) x c.in_ok-made.made) c.new-env.ensures c.in_ok-made.ensures.rows);
   least = omega arith;
   most = omega arith;
 }

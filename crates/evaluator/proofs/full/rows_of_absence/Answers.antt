@@ -13,11 +13,11 @@ use Rattle.evaluator.proofs.KeyLemmas.{keys_more, keys_none}
 use Rattle.evaluator.proofs.full.rows_of_absence.Goals as goal
 
 pub empty-away-requires-clause-known : goal.empty-away-requires-clause-known
-empty-away-requires-clause-known g c = known_one c.args.var (length c.args.d.now) c.requires.known
+empty-away-requires-clause-known g c = known_one c.args.watched.now.var (length c.args.d.now) c.requires.known
 
 pub ids-init : goal.ids-init
 ids-init g c = record {
-  rows = filled_none g.S.TickSet.member (λ k t. within c.args.w.lo c.args.w.hi t && not (g.I.Interpreter.present c.args.source.now (slice_index k 0) t)) c.empty-away.result;
+  rows = filled_none g.S.TickSet.member (λ k t. within c.args.watched.now.window.lo c.args.watched.now.window.hi t && not (g.I.Interpreter.present c.args.watched.now.source.now (slice_index k 0) t)) c.empty-away.result;
   least = omega arith;
   most = omega arith;
 }
@@ -30,7 +30,7 @@ absence-requires g c =
 pub put-requires-clause-above : goal.put-requires-clause-above
 put-requires-clause-above g c =
     subst (λ (k : List ℕ). list_all (λ r. key_below r.key k) c.ids.away.rows ≡ true) (sym c.key_of.ensures)
-    (block_above g.S.TickSet.member (λ k t. within c.args.w.lo c.args.w.hi t && not (g.I.Interpreter.present c.args.source.now (slice_index k 0) t))
+    (block_above g.S.TickSet.member (λ k t. within c.args.watched.now.window.lo c.args.watched.now.window.hi t && not (g.I.Interpreter.present c.args.watched.now.source.now (slice_index k 0) t))
     ([] ∷ []) c.of-id-items.result.now c.ids.id-index 0 c.empty-away.result c.ids.away (omega (arith, c.ids-test.true))
     (ap (λ (r : Table g.row.S.Denot). r.rows) c.empty-away.ensures) c.of-id-items.ensures.ascending c.ids.invariant.rows)
 
@@ -38,19 +38,19 @@ pub put-requires-clause-inside : goal.put-requires-clause-inside
 put-requires-clause-inside g c =
     let id = get_or c.of-id-items.result.now c.ids.id-index 0 in
     let own = subst (λ (z : List ℕ). has_id z id ≡ true) c.of-id-items.ensures.value (among_itself c.of-id-items.result.now c.ids.id-index 0 (omega (arith, c.ids-test.true))) in
-    let inside : key_in c.args.d.now (c.args.var ∷ []) (id ∷ []) ≡ true = and_from _ _ own refl in
+    let inside : key_in c.args.d.now (c.args.watched.now.var ∷ []) (id ∷ []) ≡ true = and_from _ _ own refl in
     subst (λ (k : List ℕ). key_in c.ids.away.domains c.ids.away.vars k ≡ true) (sym c.key_of.ensures)
-    (fits_inside c.empty-away.result c.ids.away c.ids.invariant.rows.head (c.args.var ∷ []) c.args.d.now c.args.w.lo c.args.w.hi c.empty-away.ensures (id ∷ []) inside)
+    (fits_inside c.empty-away.result c.ids.away c.ids.invariant.rows.head (c.args.watched.now.var ∷ []) c.args.d.now c.args.watched.now.window.lo c.args.watched.now.window.hi c.empty-away.ensures (id ∷ []) inside)
 
 pub put-requires-clause-lies : goal.put-requires-clause-lies
 put-requires-clause-lies g c =
-    fits_lies c.empty-away.result c.ids.away c.ids.invariant.rows.head (c.args.var ∷ []) c.args.d.now c.args.w.lo c.args.w.hi c.empty-away.ensures
-    g.S.TickSet.member c.in_ok-ticks.ticks (λ t. not (g.I.Interpreter.present c.args.source.now (get_or c.of-id-items.result.now c.ids.id-index 0) t)) c.in_ok-ticks.ensures.ticks
+    fits_lies c.empty-away.result c.ids.away c.ids.invariant.rows.head (c.args.watched.now.var ∷ []) c.args.d.now c.args.watched.now.window.lo c.args.watched.now.window.hi c.empty-away.ensures
+    g.S.TickSet.member c.in_ok-ticks.ticks (λ t. not (g.I.Interpreter.present c.args.watched.now.source.now (get_or c.of-id-items.result.now c.ids.id-index 0) t)) c.in_ok-ticks.ensures.ticks
 
 pub ids-preserved : goal.ids-preserved
 ids-preserved g c =
     let id = get_or c.of-id-items.result.now c.ids.id-index 0 in
-    let truth = λ (k : List ℕ) (t : ℕ). within c.args.w.lo c.args.w.hi t && not (g.I.Interpreter.present c.args.source.now (slice_index k 0) t) in
+    let truth = λ (k : List ℕ) (t : ℕ). within c.args.watched.now.window.lo c.args.watched.now.window.hi t && not (g.I.Interpreter.present c.args.watched.now.source.now (slice_index k 0) t) in
     record {
       rows = filled_block g.S.TickSet.member truth ([] ∷ []) c.of-id-items.result.now c.ids.id-index 0 c.empty-away.result c.ids.away c.put.new.self (omega (arith, c.ids-test.true)) c.ids.invariant.rows
           (subst (λ (k : List ℕ). IsFilled g.S.TickSet.member truth (k ∷ []) c.ids.away c.put.new.self) c.key_of.ensures
@@ -63,12 +63,12 @@ ids-preserved g c =
 pub returns-clause-rows : goal.returns-clause-rows
 returns-clause-rows g c =
     let ids = c.of-id-items.result.now in
-    let truth = λ (k : List ℕ) (t : ℕ). within c.args.w.lo c.args.w.hi t && not (g.I.Interpreter.present c.args.source.now (slice_index k 0) t) in
-    filled_all g.S.TickSet.member truth c.args.d.now (c.args.var ∷ []) c.args.w.lo c.args.w.hi (λ b t. not (g.I.Interpreter.present c.args.source.now (b c.args.var) t))
+    let truth = λ (k : List ℕ) (t : ℕ). within c.args.watched.now.window.lo c.args.watched.now.window.hi t && not (g.I.Interpreter.present c.args.watched.now.source.now (slice_index k 0) t) in
+    filled_all g.S.TickSet.member truth c.args.d.now (c.args.watched.now.var ∷ []) c.args.watched.now.window.lo c.args.watched.now.window.hi (λ b t. not (g.I.Interpreter.present c.args.watched.now.source.now (b c.args.watched.now.var) t))
     (flat_map (λ id. keys_behind id ([] ∷ [])) ids) c.empty-away.result c.ids.away
     (subst (λ (z : List ℕ). IsFilled g.S.TickSet.member truth (flat_map (λ id. keys_behind id ([] ∷ [])) z) c.empty-away.result c.ids.away) (take_all c.ids.id-index ids (omega (arith, c.ids-test.false))) c.ids.invariant.rows)
-    c.empty-away.ensures (keys_more c.args.d.now c.args.var [] ([] ∷ []) ids c.of-id-items.ensures.value c.of-id-items.ensures.ascending (keys_none c.args.d.now))
-    (known_one c.args.var (length c.args.d.now) c.requires.known) (λ b is_in t. refl)
+    c.empty-away.ensures (keys_more c.args.d.now c.args.watched.now.var [] ([] ∷ []) ids c.of-id-items.ensures.value c.of-id-items.ensures.ascending (keys_none c.args.d.now))
+    (known_one c.args.watched.now.var (length c.args.d.now) c.requires.known) (λ b is_in t. refl)
 
 pub returns-in_err-ticks-clause-reads : goal.returns-in_err-ticks-clause-reads
 returns-in_err-ticks-clause-reads g c = record {
