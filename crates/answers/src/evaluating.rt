@@ -35,6 +35,15 @@ use std::sync::ledger::Ledger;
 use steps::Steps;
 use tick_set::{TickSet, Window};
 
+// A query, the store and the regions that it is asked of, and the window.
+#[derive(Clone, Copy)]
+struct Asked<'a> {
+    query: &'a RQuery,
+    store: &'a Store,
+    regions: &'a Regions,
+    window: Window,
+}
+
 /// The objects that were ever inserted into the classes of a query, for each of its variables. It fails only
 /// where memory is out.
 pub fn domains_of(alloc: Global, q: &RQuery, store: &Store) -> Result<Domains, AllocError>
@@ -78,11 +87,17 @@ pub fn evaluate<'d, L: Ledger, M: Ledger>(
     if !can_hold(q, d, store, regions, w) {
         return Ok(no_rows(alloc, d, w));
     }
+    let asked = Asked {
+        query: q,
+        store,
+        regions,
+        window: w,
+    };
     let Some(some) = narrowed(alloc, q, d, store, regions, w)? else {
-        let rows = evaluate_all(alloc, q, d, store, regions, w, reads, probes)?;
+        let rows = evaluate_all(alloc, &asked, d, reads, probes)?;
         return Ok(rows);
     };
-    let rows = evaluate_all(alloc, q, &some, store, regions, w, reads, probes)?;
+    let rows = evaluate_all(alloc, &asked, &some, reads, probes)?;
     let made = widened(alloc, rows, d)?;
     Ok(made)
 }
@@ -100,35 +115,41 @@ fn no_rows<'d>(alloc: Global, d: &'d Domains, w: Window) -> Relation<'d, Interva
 // The same, where each object of the domains is asked.
 fn evaluate_all<'d, L: Ledger, M: Ledger>(
     alloc: Global,
-    q: &RQuery,
+    asked: &Asked<'_>,
     d: &'d Domains,
-    store: &Store,
-    regions: &Regions,
-    w: Window,
     reads: &mut Steps<L>,
     probes: &mut Steps<M>,
 ) -> Result<Relation<'d, IntervalSet>, AllocError>
-    requires accepted { IsOfAcceptedWrites store.now }
-    requires resolved { IsResolved (resolved_view q.now) }
-    requires fits { FitsItsClasses (world_in store.now regions.now) (resolved_view q.now) }
-    requires domains { AreOfItsClasses (catalog_of store.now) (resolved_view q.now) d.now }
-    requires length { IsQueryWindow w }
+    requires accepted { IsOfAcceptedWrites asked.now.store.now }
+    requires resolved { IsResolved (resolved_view asked.now.query.now) }
+    requires fits { FitsItsClasses (world_in asked.now.store.now asked.now.regions.now) (resolved_view asked.now.query.now) }
+    requires domains { AreOfItsClasses (catalog_of asked.now.store.now) (resolved_view asked.now.query.now) d.now }
+    requires length { IsQueryWindow asked.now.window }
     ensures rows { IfOk result (λ r. (b : ℕ → ℕ) → IsIn d.now b → (t : ℕ) → table_has spans_have r b t
-        ≡ (within w.lo w.hi t && holds_full (world_in store.now regions.now) (resolved_view q.now) w.hi b t)) }
-    ensures vars { IfOk result (λ r. r.vars ≡ between 0 (length q.now.classes)) }
-    ensures frame { IfOk result (λ r. HasFrame r d.now w.lo w.hi) }
-    ensures reads { StepsAtMost reads.old reads.new (query_reads (domain_size d.now) (w.hi + 1 - w.lo) (resolved_view q.now)) }
+        ≡ (within asked.now.window.lo asked.now.window.hi t
+        && holds_full (world_in asked.now.store.now asked.now.regions.now) (resolved_view asked.now.query.now) asked.now.window.hi b t)) }
+    ensures vars { IfOk result (λ r. r.vars ≡ between 0 (length asked.now.query.now.classes)) }
+    ensures frame { IfOk result (λ r. HasFrame r d.now asked.now.window.lo asked.now.window.hi) }
+    ensures reads { StepsAtMost reads.old reads.new
+        (query_reads (domain_size d.now) (asked.now.window.hi + 1 - asked.now.window.lo) (resolved_view asked.now.query.now)) }
 {
     fitting_queries_can_be_asked();
-    let world = StoredWorld { store, regions };
-    if let Some(distance) = distance_of(q) {
+    let world = StoredWorld {
+        store: asked.store,
+        regions: asked.regions,
+    };
+    if let Some(distance) = distance_of(asked.query) {
         resolved_atoms_and_terms_are_sized();
         atoms_of_absent_objects_are_false();
-        let scene = Scene { distance, world, w };
+        let scene = Scene {
+            distance,
+            world,
+            w: asked.window,
+        };
         let near = rows_of_pairs(alloc, &scene, d, reads, probes)?;
         return Ok(near);
     }
-    let rows = full_rows(alloc, &world, q, d, w, reads, probes)?;
+    let rows = full_rows(alloc, &world, asked.query, d, asked.window, reads, probes)?;
     Ok(rows)
 }
 

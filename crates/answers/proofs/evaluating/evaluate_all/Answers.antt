@@ -8,24 +8,24 @@ use Rattle.answers.proofs.evaluating.evaluate_all.Goals as goal
 
 pub full_rows-requires-clause-over : goal.full_rows-requires-clause-over
 full_rows-requires-clause-over g c =
-    subst (λ (n : ℕ). IsOver n (formula_view c.args.q.now.formula)) (sym c.requires.domains.many)
-    (c.fitting_queries_can_be_asked.ensures.over (resolved_view c.args.q.now) c.requires.resolved)
+    subst (λ (n : ℕ). IsOver n (formula_view c.args.asked.now.query.now.formula)) (sym c.requires.domains.many)
+    (c.fitting_queries_can_be_asked.ensures.over (resolved_view c.args.asked.now.query.now) c.requires.resolved)
 
 pub full_rows-requires-clause-can : goal.full_rows-requires-clause-can
 full_rows-requires-clause-can g c =
-    c.fitting_queries_can_be_asked.ensures.asked c.args.store.now c.args.regions.now (resolved_view c.args.q.now) c.args.d.now c.args.w.lo c.args.w.hi
-    c.requires.accepted c.requires.resolved c.requires.fits c.requires.domains c.args.w.in_range c.requires.length
+    c.fitting_queries_can_be_asked.ensures.asked c.args.asked.now.store.now c.args.asked.now.regions.now (resolved_view c.args.asked.now.query.now) c.args.d.now c.args.asked.now.window.lo c.args.asked.now.window.hi
+    c.requires.accepted c.requires.resolved c.requires.fits c.requires.domains c.args.asked.now.window.in_range c.requires.length
 
 pub full_rows-requires-clause-objects : goal.full_rows-requires-clause-objects
 full_rows-requires-clause-objects g c =
-    c.fitting_queries_can_be_asked.ensures.objects c.args.store.now (resolved_view c.args.q.now) c.args.d.now c.requires.domains
+    c.fitting_queries_can_be_asked.ensures.objects c.args.asked.now.store.now (resolved_view c.args.asked.now.query.now) c.args.d.now c.requires.domains
 
 pub rows_of_pairs-requires-clause-can : goal.rows_of_pairs-requires-clause-can
 rows_of_pairs-requires-clause-can g c =
     let told = c.in-Some.ensures in
     record {
       distance = told.distance;
-      sized = sized_pair (resolved_view c.args.q.now) c.in-Some.distance told.distance told.formula told.two c.resolved_atoms_and_terms_are_sized.ensures.atoms c.requires.resolved;
+      sized = sized_pair (resolved_view c.args.asked.now.query.now) c.in-Some.distance told.distance told.formula told.two c.resolved_atoms_and_terms_are_sized.ensures.atoms c.requires.resolved;
       short = c.requires.length;
     }
 
@@ -34,14 +34,14 @@ rows_of_pairs-requires-clause-two g c = c.requires.domains.many ∙ c.in-Some.en
 
 pub rows_of_pairs-requires-clause-stored : goal.rows_of_pairs-requires-clause-stored
 rows_of_pairs-requires-clause-stored g c =
-    c.fitting_queries_can_be_asked.ensures.objects c.args.store.now (resolved_view c.args.q.now) c.args.d.now c.requires.domains
+    c.fitting_queries_can_be_asked.ensures.objects c.args.asked.now.store.now (resolved_view c.args.asked.now.query.now) c.args.d.now c.requires.domains
 
 pub returns-in-Some-clause-rows : goal.returns-in-Some-clause-rows
 returns-in-Some-clause-rows g c b is_in t =
     let told = c.in-Some.ensures in
     c.in_ok-near.ensures.rows.ticks b is_in t
-    ∙ ap (λ holds. within c.args.w.lo c.args.w.hi t && holds)
-    (sym (full_pairs (resolved_view c.args.q.now) c.in-Some.distance told.distance told.formula told.two c.atoms_of_absent_objects_are_false.ensures c.args.store.now c.args.regions.now c.args.w.hi b t))
+    ∙ ap (λ holds. within c.args.asked.now.window.lo c.args.asked.now.window.hi t && holds)
+    (sym (full_pairs (resolved_view c.args.asked.now.query.now) c.in-Some.distance told.distance told.formula told.two c.atoms_of_absent_objects_are_false.ensures c.args.asked.now.store.now c.args.asked.now.regions.now c.args.asked.now.window.hi b t))
 
 pub returns-in-Some-clause-vars : goal.returns-in-Some-clause-vars
 unfolding between
@@ -51,7 +51,7 @@ pub returns-in-Some-clause-reads : goal.returns-in-Some-clause-reads
 returns-in-Some-clause-reads g c = record {
   least = omega arith;
   most = (let told = c.in-Some.ensures in
-      pair_looks (resolved_view c.args.q.now) c.in-Some.distance told.distance told.formula told.two (domain_size c.args.d.now) (c.args.w.hi + 1 - c.args.w.lo) _ _
+      pair_looks (resolved_view c.args.asked.now.query.now) c.in-Some.distance told.distance told.formula told.two (domain_size c.args.d.now) (c.args.asked.now.window.hi + 1 - c.args.asked.now.window.lo) _ _
       c.in_ok-near.ensures.reads.most);
 }
 
@@ -59,6 +59,6 @@ pub returns-in_err-near-clause-reads : goal.returns-in_err-near-clause-reads
 returns-in_err-near-clause-reads g c = record {
   least = omega arith;
   most = (let told = c.in-Some.ensures in
-      pair_looks (resolved_view c.args.q.now) c.in-Some.distance told.distance told.formula told.two (domain_size c.args.d.now) (c.args.w.hi + 1 - c.args.w.lo) _ _
+      pair_looks (resolved_view c.args.asked.now.query.now) c.in-Some.distance told.distance told.formula told.two (domain_size c.args.d.now) (c.args.asked.now.window.hi + 1 - c.args.asked.now.window.lo) _ _
       c.in_err-near.ensures.reads.most);
 }
