@@ -33,6 +33,20 @@ use std::sync::ledger::Ledger;
 use steps::Steps;
 use tick_set::{LAST_TICK, SPAN_LIMIT, Window};
 
+/// A query from now to `span` ticks later.
+#[derive(Clone, Copy)]
+pub(crate) struct Asked<'a> {
+    pub(crate) span: u32,
+    pub(crate) query: &'a Query,
+}
+
+/// The same by number, where nothing refuses it.
+#[derive(Clone, Copy)]
+struct Resolved<'a> {
+    span: u32,
+    query: &'a RQuery,
+}
+
 /// The longest span of a formula, in ticks.
 #[tactic(auto, using(crate::proofs::AskLemmas::some_saturated))]
 fn span_limit(formula: &Formula) -> u32
@@ -145,30 +159,32 @@ fn judged(
 fn push_answer<L: Ledger, M: Ledger>(
     alloc: Global,
     database: &Database,
-    span: u32,
-    query: &RQuery,
+    resolved: &Resolved,
     reads: &mut Steps<L>,
     probes: &mut Steps<M>,
     out: &mut Vec<u8>,
 ) -> Result<(), AllocError>
     requires accepted { TellsAcceptedWrites database.now }
-    requires resolved { IsResolved (resolved_view query.now) }
-    requires fits { FitsItsClasses (world_of_database database.now) (resolved_view query.now) }
-    requires short { span ≤ SPAN_LIMIT }
-    requires reached { database.now.clock + span ≤ LAST_TICK }
+    requires resolved { IsResolved (resolved_view resolved.now.query.now) }
+    requires fits { FitsItsClasses (world_of_database database.now) (resolved_view resolved.now.query.now) }
+    requires short { resolved.now.span ≤ SPAN_LIMIT }
+    requires reached { database.now.clock + resolved.now.span ≤ LAST_TICK }
     ensures ok { OnOk result (out.new.items ≡ out.old.items ++ rows_text (catalog_of database.now.store) database.now.clock
-        (answer (world_of_database database.now) (resolved_view query.now) database.now.clock (database.now.clock + span))) }
-    ensures takes { TakesAtMost (query_reads (sizes_of (catalog_of database.now.store) (resolved_view query.now)) (span + 1) (resolved_view query.now))
+        (answer (world_of_database database.now) (resolved_view resolved.now.query.now) database.now.clock
+        (database.now.clock + resolved.now.span))) }
+    ensures takes { TakesAtMost
+        (query_reads (sizes_of (catalog_of database.now.store) (resolved_view resolved.now.query.now)) (resolved.now.span + 1)
+        (resolved_view resolved.now.query.now))
         (tally out.old.items reads.old probes.old) (tally out.new.items reads.new probes.new) }
 {
     let window = Window {
         lo: database.clock,
-        hi: database.clock + span,
+        hi: database.clock + resolved.span,
     };
     let store = &database.store;
     let answer = answers::ask(
         alloc,
-        query,
+        resolved.query,
         store,
         &database.regions,
         window,
@@ -182,20 +198,24 @@ fn push_answer<L: Ledger, M: Ledger>(
 pub(crate) fn ask<L: Ledger, M: Ledger>(
     alloc: Global,
     database: &Database,
-    span: u32,
-    query: &Query,
+    asked: &Asked,
     reads: &mut Steps<L>,
     probes: &mut Steps<M>,
     out: &mut Vec<u8>,
 ) -> Result<(), CommandFault>
-    requires query { IsToAsk database.now span (query_view query.now) }
+    requires query { IsToAsk database.now asked.now.span (query_view asked.now.query.now) }
     requires accepted { TellsAcceptedWrites database.now }
-    ensures asked { Asks (world_of_database database.now) database.now.clock span (query_view query.now) out.old.items out.new.items result }
-    ensures takes { TakesAtMost (most_reads (world_of_database database.now) span (query_view query.now))
+    ensures asked { Asks (world_of_database database.now) database.now.clock asked.now.span (query_view asked.now.query.now)
+        out.old.items out.new.items result }
+    ensures takes { TakesAtMost (most_reads (world_of_database database.now) asked.now.span (query_view asked.now.query.now))
         (tally out.old.items reads.old probes.old) (tally out.new.items reads.new probes.new) }
     ensures free { RefusesFreely (tally out.old.items reads.old probes.old) (tally out.new.items reads.new probes.new) result }
 {
-    let query = judged(alloc, database, span, query)?;
-    push_answer(alloc, database, span, &query, reads, probes, out)?;
+    let query = judged(alloc, database, asked.span, asked.query)?;
+    let resolved = Resolved {
+        span: asked.span,
+        query: &query,
+    };
+    push_answer(alloc, database, &resolved, reads, probes, out)?;
     Ok(())
 }

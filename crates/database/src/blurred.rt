@@ -46,6 +46,13 @@ pub(crate) struct Doubted<'a> {
     pub(crate) query: &'a Query,
 }
 
+/// The same with the query by number, where nothing refuses it.
+#[derive(Clone, Copy)]
+struct Resolved<'a> {
+    asked: &'a Doubted<'a>,
+    query: &'a RQuery,
+}
+
 /// What is asked of positions that may be off by an error, which has no sign.
 fn blur_of(sure: bool, error: Fix) -> Blur
     requires { unsigned_abs error ≤ RADIUS_LIMIT }
@@ -149,37 +156,38 @@ fn judged(
 fn push_blurred<L: Ledger, M: Ledger>(
     alloc: Global,
     database: &Database,
-    asked: &Doubted,
-    query: &RQuery,
+    resolved: &Resolved,
     reads: &mut Steps<L>,
     probes: &mut Steps<M>,
     out: &mut Vec<u8>,
 ) -> Result<(), AllocError>
     requires accepted { TellsAcceptedWrites database.now }
-    requires resolved { IsResolved (resolved_view query.now) }
-    requires fits { FitsItsClasses (world_of_database database.now) (resolved_view query.now) }
-    requires error { unsigned_abs asked.now.error ≤ RADIUS_LIMIT }
-    requires short { asked.now.span ≤ SPAN_LIMIT }
-    requires reached { database.now.clock + asked.now.span ≤ LAST_TICK }
+    requires resolved { IsResolved (resolved_view resolved.now.query.now) }
+    requires fits { FitsItsClasses (world_of_database database.now) (resolved_view resolved.now.query.now) }
+    requires error { unsigned_abs resolved.now.asked.now.error ≤ RADIUS_LIMIT }
+    requires short { resolved.now.asked.now.span ≤ SPAN_LIMIT }
+    requires reached { database.now.clock + resolved.now.asked.now.span ≤ LAST_TICK }
     ensures ok { OnOk result (out.new.items ≡ out.old.items ++ rows_text (catalog_of database.now.store) database.now.clock
-        (answer_where (world_of_database database.now) (resolved_view query.now)
-        (holds_by (blurred asked.now.sure (unsigned_abs asked.now.error) (world_of_database database.now)) (world_of_database database.now)
-        (resolved_view query.now) (database.now.clock + asked.now.span)) database.now.clock (database.now.clock + asked.now.span))) }
+        (answer_where (world_of_database database.now) (resolved_view resolved.now.query.now)
+        (holds_by (blurred resolved.now.asked.now.sure (unsigned_abs resolved.now.asked.now.error) (world_of_database database.now))
+        (world_of_database database.now) (resolved_view resolved.now.query.now) (database.now.clock + resolved.now.asked.now.span))
+        database.now.clock (database.now.clock + resolved.now.asked.now.span))) }
     ensures takes { TakesAtMost
-        (query_reads (sizes_of (catalog_of database.now.store) (resolved_view query.now)) (asked.now.span + 1) (resolved_view query.now))
+        (query_reads (sizes_of (catalog_of database.now.store) (resolved_view resolved.now.query.now))
+        (resolved.now.asked.now.span + 1) (resolved_view resolved.now.query.now))
         (tally out.old.items reads.old probes.old) (tally out.new.items reads.new probes.new) }
 {
     let window = Window {
         lo: database.clock,
-        hi: database.clock + asked.span,
+        hi: database.clock + resolved.asked.span,
     };
     let store = &database.store;
     let world = BlurredWorld {
         store,
         regions: &database.regions,
-        blur: blur_of(asked.sure, asked.error),
+        blur: blur_of(resolved.asked.sure, resolved.asked.error),
     };
-    let answer = blurred_answer(alloc, query, &world, window, reads, probes)?;
+    let answer = blurred_answer(alloc, resolved.query, &world, window, reads, probes)?;
     push_rows(alloc, store, database.clock, answer.rows(), out)
 }
 
@@ -205,6 +213,10 @@ pub(crate) fn tell_blurred<L: Ledger, M: Ledger>(
     ensures free { RefusesFreely (tally out.old.items reads.old probes.old) (tally out.new.items reads.new probes.new) result }
 {
     let query = judged(alloc, database, asked.span, asked.query)?;
-    push_blurred(alloc, database, asked, &query, reads, probes, out)?;
+    let resolved = Resolved {
+        asked,
+        query: &query,
+    };
+    push_blurred(alloc, database, &resolved, reads, probes, out)?;
     Ok(())
 }

@@ -5,7 +5,7 @@ ghost use Rattle.line_meaning.specs.Looks.{is_query, looks_asked};
 ghost use Rattle.database.specs.Keeping.{IsTimely, TellsAcceptedWrites, world_of_database};
 ghost use Rattle.database.specs.Telling.{IsToTell, RefusesFreely, TakesAtMost, Tells, tally};
 
-use crate::asking::ask;
+use crate::asking::{Asked, ask};
 use crate::blurred::{Doubted, tell_blurred};
 use crate::database::Database;
 use crate::listing::push_listing;
@@ -43,7 +43,10 @@ impl Database {
                 push_listing(self, out)?;
                 Ok(())
             }
-            Command::Ask { span, query } => ask(alloc, self, *span, query, reads, probes, out),
+            Command::Ask { span, query } => {
+                let asked = Asked { span: *span, query };
+                ask(alloc, self, &asked, reads, probes, out)
+            }
             Command::Nearest {
                 span,
                 k,

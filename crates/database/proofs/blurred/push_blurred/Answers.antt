@@ -16,8 +16,8 @@ pub push_rows-requires : goal.push_rows-requires
 push_rows-requires g c =
     let d = c.args.database.now in
     let w = world_of_database d in
-    let q = resolved_view c.args.query.now in
-    let e = d.clock + c.args.asked.now.span in
+    let q = resolved_view c.args.resolved.now.query.now in
+    let e = d.clock + c.args.resolved.now.asked.now.span in
     ap (list_all (has_objects (length (catalog_of d.store).objects))) (c.rows.ensures ∙ c.in_ok-answer.ensures.rows)
     ∙ answer_has_objects w q (holds_by (blurred c.blur_of.result.sure c.blur_of.result.error w) w q e) d.clock e
 
@@ -25,8 +25,8 @@ pub returns-clause-ok : goal.returns-clause-ok
 returns-clause-ok g c =
     let d = c.args.database.now in
     let w = world_of_database d in
-    let q = resolved_view c.args.query.now in
-    let asked = c.args.asked.now in
+    let q = resolved_view c.args.resolved.now.query.now in
+    let asked = c.args.resolved.now.asked.now in
     let e = d.clock + asked.span in
     let writes : List Row → Type 0 = λ rows.
     OnOk c.push_rows.result (c.push_rows.new.out.items ≡ c.args.out.now.items ++ rows_text (catalog_of d.store) d.clock rows) in
