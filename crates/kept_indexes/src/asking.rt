@@ -48,6 +48,13 @@ pub struct Range<'a> {
     pub greatest: Fix,
 }
 
+// A database, with the journal that it keeps.
+#[derive(Clone, Copy)]
+struct Present<'a> {
+    database: &'a Database,
+    journal: &'a Journal,
+}
+
 /// The place of the index that is asked, or why it isn't.
 fn place_asked(kept: &[Kept], database: &Database, range: &Range) -> Result<usize, Refusal>
     requires now { IsTick database.now.clock }
@@ -98,15 +105,8 @@ impl Indexes {
     {
         match place_asked(&self.kept, database, range) {
             Ok(place) => {
-                answer(
-                    alloc,
-                    &mut self.kept[place],
-                    database,
-                    journal,
-                    range,
-                    reads,
-                    out,
-                )?;
+                let present = Present { database, journal };
+                answer(alloc, &mut self.kept[place], &present, range, reads, out)?;
                 Ok(())
             }
             Err(refusal) => Err(CommandFault::Refused(refusal)),
@@ -118,27 +118,27 @@ impl Indexes {
 fn answer<L: Ledger>(
     alloc: Global,
     kept: &mut Kept,
-    database: &Database,
-    journal: &Journal,
+    present: &Present<'_>,
     range: &Range,
     reads: &mut Steps<L>,
     out: &mut Vec<u8>,
 ) -> Result<(), AllocError>
-    requires begun { BeginAtLastWrites journal.now database.now.store }
-    requires right { IsRight journal.now database.now.store kept.old }
-    requires keeps { Keeps journal.now database.now }
-    requires fits { is_past_index database.now.clock range.now.span (entry_of kept.old) ≡ false }
-    ensures right { IsRight journal.now database.now.store kept.new }
-    ensures entry { OnOk result (entry_of kept.new ≡ record (entry_of kept.old) { seen = length journal.now }) }
+    requires begun { BeginAtLastWrites present.now.journal.now present.now.database.now.store }
+    requires right { IsRight present.now.journal.now present.now.database.now.store kept.old }
+    requires keeps { Keeps present.now.journal.now present.now.database.now }
+    requires fits { is_past_index present.now.database.now.clock range.now.span (entry_of kept.old) ≡ false }
+    ensures right { IsRight present.now.journal.now present.now.database.now.store kept.new }
+    ensures entry { OnOk result (entry_of kept.new ≡ record (entry_of kept.old) { seen = length present.now.journal.now }) }
     ensures err { OnErr result (entry_of kept.new ≡ entry_of kept.old) }
-    ensures rows { OnOk result (out.new.items ≡ out.old.items ++ rows_text (world journal.now).history.catalog (clock journal.now)
-        (answer (world journal.now) (range_query kept.old.index.grid.class kept.old.index.grid.attribute range.now.least range.now.greatest)
-        (clock journal.now) (clock journal.now + range.now.span))) }
+    ensures rows { OnOk result (out.new.items ≡ out.old.items ++ rows_text (world present.now.journal.now).history.catalog (clock present.now.journal.now)
+        (answer (world present.now.journal.now) (range_query kept.old.index.grid.class kept.old.index.grid.attribute range.now.least range.now.greatest)
+        (clock present.now.journal.now) (clock present.now.journal.now + range.now.span))) }
     ensures begins { Begins out.old.items out.new.items }
     ensures room { OnOk result (HasRoomForOk out.new) }
     ensures reads { StepsAtMost reads.old reads.new
-        (looks_in_range journal.now range.now.span range.now.least range.now.greatest (entry_of kept.old)) }
+        (looks_in_range present.now.journal.now range.now.span range.now.least range.now.greatest (entry_of kept.old)) }
 {
+    let database = present.database;
     let store = database.store();
     let window = window_of(&kept.index, store, database.clock(), range.span);
     let rows = kept
@@ -146,7 +146,7 @@ fn answer<L: Ledger>(
         .range_rows(alloc, range.least, range.greatest, store, window, reads)?;
     push_rows(store, database.clock(), &rows, out)?;
     make_room(out)?;
-    kept.seen = journal.len();
+    kept.seen = present.journal.len();
     Ok(())
 }
 
