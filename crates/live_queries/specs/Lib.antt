@@ -2,6 +2,7 @@ pub mod Asked
 pub mod Columns
 pub mod Current
 pub mod Effort
+pub mod Judging
 pub mod Kept
 pub mod Lone
 pub mod Missed

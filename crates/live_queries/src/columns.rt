@@ -10,6 +10,7 @@ ghost use Rattle.live_queries.specs.Prepared.{HaveRoomFor};
 ghost use Rattle.live_queries.specs.Written.{AreVariablesWith, DoAscendWith, lacks_objects};
 
 use crate::objects::{Objects, is_of_class};
+use crate::written::Arrival;
 use formula::{ClassNo, RQuery};
 use kept_rows::Variable;
 use object_store::Store;
@@ -95,21 +96,19 @@ pub(crate) fn class_count(store: &Store, class: ClassNo) -> usize
 pub(crate) fn numbers_with(
     alloc: Global,
     columns: &[Objects],
-    grows: bool,
     classes: &[ClassNo],
-    class: ClassNo,
-    id: u32,
-    likely: usize,
+    arrival: &Arrival,
 ) -> Result<Vec<Variable>, AllocError>
-    requires room { grows ≡ true → HaveRoomFor class classes.now columns.now }
-    requires ascending { DoAscendWith grows class classes.now id columns.now }
-    ensures { IfOk result (λ numbers. AreVariablesWith grows class classes.now id columns.now numbers.items) }
+    requires room { arrival.now.grows ≡ true → HaveRoomFor arrival.now.object.now.class classes.now columns.now }
+    requires ascending { DoAscendWith arrival.now.grows arrival.now.object.now.class classes.now arrival.now.object.now.id columns.now }
+    ensures { IfOk result (λ numbers. AreVariablesWith arrival.now.grows arrival.now.object.now.class classes.now arrival.now.object.now.id columns.now numbers.items) }
 {
+    let object = arrival.object;
     let mut numbers = Vec::with_capacity(alloc, columns.len())?;
     let mut rest = columns;
     'columns: while let Some((column, later)) = rest.split_first() {
-        let takes = grows && is_of_class(classes, column.variable(), class);
-        numbers.push(column.numbers_with(takes, id, likely))?;
+        let takes = arrival.grows && is_of_class(classes, column.variable(), object.class);
+        numbers.push(column.numbers_with(takes, object.id, object.place as usize))?;
         rest = later;
     }
     Ok(numbers)

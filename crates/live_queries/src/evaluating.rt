@@ -19,7 +19,7 @@ ghost use Rattle.atoms.specs.Asked.{told_world};
 ghost use Rattle.answers.specs.Objects.{IsOfAcceptedWrites};
 ghost use Rattle.live_queries.specs.Asked.{IsObjectWithClass};
 ghost use Rattle.live_queries.specs.Columns.{AreColumnsOf, AreCounted, Column, column_variables, gives, object_at_number, order_of};
-ghost use Rattle.live_queries.specs.Prepared.{AreColumnsWith, HaveRoomFor};
+ghost use Rattle.live_queries.specs.Judging.{AreColumnsOfRows, AreJudgedRows, CanBeJudged, ComesTo};
 ghost use Rattle.live_queries.specs.Written.{HaveObjectsWith, takes_object};
 ghost use Rattle.steps.specs.Counting.{StepsAtMost};
 
@@ -28,9 +28,9 @@ use crate::judging::{Alone, Parts};
 use crate::numbering::table_of;
 use crate::objects::{Objects, is_of_class, width};
 use crate::parts::{parts_of, singles};
-use crate::written::{Judged, Written};
-use answers::{StoredWorld, domains_of, evaluate, evaluate_alone};
-use formula::{ClassNo, RQuery};
+use crate::written::{Arrival, Inquiry, Judged};
+use answers::{domains_of, evaluate, evaluate_alone};
+use formula::ClassNo;
 use interval_set::IntervalSet;
 use kept_rows::{Changes, KeptRows, refresh};
 use std::alloc::{AllocError, Global};
@@ -43,59 +43,56 @@ use tick_set::{TickSet, Window};
 /// memory is out.
 pub(crate) fn rows_between<L: Ledger, M: Ledger>(
     alloc: Global,
-    query: &RQuery,
-    columns: &[Objects],
-    world: &StoredWorld,
+    inquiry: &Inquiry,
     lo: u32,
     hi: u32,
     reads: &mut Steps<L>,
     probes: &mut Steps<M>,
 ) -> Result<KeptRows<IntervalSet>, AllocError>
-    requires accepted { IsOfAcceptedWrites world.now.store.now }
-    requires resolved { IsResolved (resolved_view query.now) }
-    requires fits { FitsItsClasses (told_world world.now) (resolved_view query.now) }
-    requires columns { AreColumnsOf (catalog_of world.now.store.now) query.now.classes (order_of (resolved_view query.now)) columns.now }
-    requires size { IsBindingCount (size_of (column_variables columns.now)) }
+    requires accepted { IsOfAcceptedWrites inquiry.now.world.now.store.now }
+    requires resolved { IsResolved (resolved_view inquiry.now.query.now) }
+    requires fits { FitsItsClasses (told_world inquiry.now.world.now) (resolved_view inquiry.now.query.now) }
+    requires columns { AreColumnsOf (catalog_of inquiry.now.world.now.store.now) inquiry.now.query.now.classes (order_of (resolved_view inquiry.now.query.now)) inquiry.now.columns.now }
+    requires size { IsBindingCount (size_of (column_variables inquiry.now.columns.now)) }
     requires last { IsTick hi }
     requires length { hi - lo ≤ SPAN_LIMIT }
-    ensures room { IfOk result (λ rows. HasRoom rows (size_of (column_variables columns.now))) }
-    ensures rows { IfOk result (λ rows. AreFullRows (row_has spans_have rows) (counts (column_variables columns.now))
-        (λ n t. within lo hi t && holds_full (told_world world.now) (resolved_view query.now) hi (object_at_number columns.now n) t)) }
+    ensures room { IfOk result (λ rows. HasRoom rows (size_of (column_variables inquiry.now.columns.now))) }
+    ensures rows { IfOk result (λ rows. AreFullRows (row_has spans_have rows) (counts (column_variables inquiry.now.columns.now))
+        (λ n t. within lo hi t && holds_full (told_world inquiry.now.world.now) (resolved_view inquiry.now.query.now) hi (object_at_number inquiry.now.columns.now n) t)) }
     ensures reads { StepsAtMost reads.old reads.new
-        (query_reads (sizes_of (catalog_of world.now.store.now) (resolved_view query.now)) (hi + 1 - lo) (resolved_view query.now)) }
+        (query_reads (sizes_of (catalog_of inquiry.now.world.now.store.now) (resolved_view inquiry.now.query.now)) (hi + 1 - lo) (resolved_view inquiry.now.query.now)) }
 {
     match Window::new(lo, hi) {
-        Some(w) => first_rows(alloc, query, columns, world, w, reads, probes),
-        None => KeptRows::new(alloc, width(columns)),
+        Some(w) => first_rows(alloc, inquiry, w, reads, probes),
+        None => KeptRows::new(alloc, width(inquiry.columns)),
     }
 }
 
 // The same over a window, by one evaluation.
 fn first_rows<L: Ledger, M: Ledger>(
     alloc: Global,
-    query: &RQuery,
-    columns: &[Objects],
-    world: &StoredWorld,
+    inquiry: &Inquiry,
     w: Window,
     reads: &mut Steps<L>,
     probes: &mut Steps<M>,
 ) -> Result<KeptRows<IntervalSet>, AllocError>
-    requires accepted { IsOfAcceptedWrites world.now.store.now }
-    requires resolved { IsResolved (resolved_view query.now) }
-    requires fits { FitsItsClasses (told_world world.now) (resolved_view query.now) }
-    requires columns { AreColumnsOf (catalog_of world.now.store.now) query.now.classes (order_of (resolved_view query.now)) columns.now }
-    requires size { IsBindingCount (size_of (column_variables columns.now)) }
+    requires accepted { IsOfAcceptedWrites inquiry.now.world.now.store.now }
+    requires resolved { IsResolved (resolved_view inquiry.now.query.now) }
+    requires fits { FitsItsClasses (told_world inquiry.now.world.now) (resolved_view inquiry.now.query.now) }
+    requires columns { AreColumnsOf (catalog_of inquiry.now.world.now.store.now) inquiry.now.query.now.classes (order_of (resolved_view inquiry.now.query.now)) inquiry.now.columns.now }
+    requires size { IsBindingCount (size_of (column_variables inquiry.now.columns.now)) }
     requires length { IsQueryWindow w }
-    ensures room { IfOk result (λ rows. HasRoom rows (size_of (column_variables columns.now))) }
-    ensures rows { IfOk result (λ rows. AreFullRows (row_has spans_have rows) (counts (column_variables columns.now))
-        (λ n t. within w.lo w.hi t && holds_full (told_world world.now) (resolved_view query.now) w.hi (object_at_number columns.now n) t)) }
+    ensures room { IfOk result (λ rows. HasRoom rows (size_of (column_variables inquiry.now.columns.now))) }
+    ensures rows { IfOk result (λ rows. AreFullRows (row_has spans_have rows) (counts (column_variables inquiry.now.columns.now))
+        (λ n t. within w.lo w.hi t && holds_full (told_world inquiry.now.world.now) (resolved_view inquiry.now.query.now) w.hi (object_at_number inquiry.now.columns.now n) t)) }
     ensures reads { StepsAtMost reads.old reads.new
-        (query_reads (sizes_of (catalog_of world.now.store.now) (resolved_view query.now)) (w.hi + 1 - w.lo) (resolved_view query.now)) }
+        (query_reads (sizes_of (catalog_of inquiry.now.world.now.store.now) (resolved_view inquiry.now.query.now)) (w.hi + 1 - w.lo) (resolved_view inquiry.now.query.now)) }
 {
-    let domains = domains_of(alloc, query, world.store)?;
+    let world = inquiry.world;
+    let domains = domains_of(alloc, inquiry.query, world.store)?;
     let full = evaluate(
         alloc,
-        query,
+        inquiry.query,
         &domains,
         world.store,
         world.regions,
@@ -103,7 +100,7 @@ fn first_rows<L: Ledger, M: Ledger>(
         reads,
         probes,
     )?;
-    let rows = table_of(alloc, columns, full)?;
+    let rows = table_of(alloc, inquiry.columns, full)?;
     Ok(rows)
 }
 
@@ -114,58 +111,29 @@ pub(crate) fn new_rows<L: Ledger, M: Ledger>(
     alloc: Global,
     judged: &Judged,
     columns: &[Objects],
-    object: &Written,
-    grows: bool,
+    arrival: &Arrival,
     reads: &mut Steps<L>,
     probes: &mut Steps<M>,
 ) -> Result<Changes<IntervalSet>, AllocError>
-    requires accepted { IsOfAcceptedWrites judged.now.world.now.store.now }
-    requires resolved { IsResolved (resolved_view judged.now.query.now) }
-    requires fits { FitsItsClasses (told_world judged.now.world.now) (resolved_view judged.now.query.now) }
-    requires object { IsObjectWithClass judged.now.world.now.store.now object.now.id object.now.class }
-    requires order { map (λ c. c.variable) columns.now ≡ order_of (resolved_view judged.now.query.now) }
-    requires room { grows ≡ true → HaveRoomFor object.now.class judged.now.query.now.classes columns.now }
-    requires objects { HaveObjectsWith (catalog_of judged.now.world.now.store.now) grows object.now.class judged.now.query.now.classes object.now.id columns.now }
-    requires counted { AreCounted columns.now }
-    requires size { IsBindingCount (size_of (column_variables columns.now)) }
-    requires pages { HasRoom judged.now.rows.now (size_of (column_variables columns.now)) }
-    requires length { IsQueryWindow judged.now.w }
+    requires judged { CanBeJudged judged.now }
+    requires columns { AreColumnsOfRows judged.now columns.now }
+    requires arrival { ComesTo judged.now columns.now arrival.now }
     ensures ready { IfOk result (λ f. AreReady spans_have judged.now.rows.now f) }
     ensures rising { IfOk result (λ f. AreRising (size_of (column_variables columns.now)) f) }
-    ensures rows { IfOk result (λ f. (ds : List Column) → AreColumnsWith grows object.now.class judged.now.query.now.classes object.now.id columns.now ds → (c t : ℕ)
-        → rows_after spans_have f (row_has spans_have judged.now.rows.now) c t
-        ≡ (if (counts (column_variables ds) c && gives ds object.now.id c) && nat_le judged.now.from t
-        then (within judged.now.w.lo judged.now.w.hi t && holds_full (told_world judged.now.world.now) (resolved_view judged.now.query.now) judged.now.w.hi (object_at_number ds c) t)
-        else row_has spans_have judged.now.rows.now c t)) }
+    ensures rows { IfOk result (AreJudgedRows judged.now columns.now arrival.now) }
     ensures reads { StepsAtMost reads.old reads.new
-        (change_reads (catalog_of judged.now.world.now.store.now) (resolved_view judged.now.query.now) (judged.now.w.hi + 1 - judged.now.w.lo) object.now.class) }
+        (change_reads (catalog_of judged.now.world.now.store.now) (resolved_view judged.now.query.now) (judged.now.w.hi + 1 - judged.now.w.lo) arrival.now.object.now.class) }
 {
     let classes = judged.query.classes.items();
+    let object = arrival.object;
     if let Some((column, later)) = columns.split_first() {
         if later.is_empty() && is_alone(classes, object.class) {
-            return new_row(alloc, judged, column, object, grows, reads, probes);
+            return new_row(alloc, judged, column, arrival, reads, probes);
         }
     }
-    let world = judged.world;
-    let singles = singles(alloc, classes, world.store, object.class, object.id)?;
-    let parts = parts_of(
-        alloc,
-        judged.query,
-        &singles,
-        world,
-        judged.w,
-        reads,
-        probes,
-    )?;
-    let numbers = numbers_with(
-        alloc,
-        columns,
-        grows,
-        classes,
-        object.class,
-        object.id,
-        object.place as usize,
-    )?;
+    let singles = singles(alloc, classes, judged.world.store, object)?;
+    let parts = parts_of(alloc, judged, &singles, reads, probes)?;
+    let numbers = numbers_with(alloc, columns, classes, arrival)?;
     let judge = Parts {
         columns,
         object: object.id,
@@ -182,34 +150,22 @@ fn new_row<L: Ledger, M: Ledger>(
     alloc: Global,
     judged: &Judged,
     column: &Objects,
-    object: &Written,
-    grows: bool,
+    arrival: &Arrival,
     reads: &mut Steps<L>,
     probes: &mut Steps<M>,
 ) -> Result<Changes<IntervalSet>, AllocError>
-    requires accepted { IsOfAcceptedWrites judged.now.world.now.store.now }
-    requires resolved { IsResolved (resolved_view judged.now.query.now) }
-    requires fits { FitsItsClasses (told_world judged.now.world.now) (resolved_view judged.now.query.now) }
-    requires object { IsObjectWithClass judged.now.world.now.store.now object.now.id object.now.class }
-    requires alone { judged.now.query.now.classes ≡ object.now.class ∷ [] }
-    requires order { map (λ c. c.variable) (column.now ∷ []) ≡ order_of (resolved_view judged.now.query.now) }
-    requires room { grows ≡ true → HaveRoomFor object.now.class judged.now.query.now.classes (column.now ∷ []) }
-    requires objects { HaveObjectsWith (catalog_of judged.now.world.now.store.now) grows object.now.class judged.now.query.now.classes object.now.id (column.now ∷ []) }
-    requires counted { AreCounted (column.now ∷ []) }
-    requires size { size_of (column_variables (column.now ∷ [])) ≤ BINDING_LIMIT }
-    requires pages { HasRoom judged.now.rows.now (size_of (column_variables (column.now ∷ []))) }
-    requires length { IsQueryWindow judged.now.w }
+    requires alone { judged.now.query.now.classes ≡ arrival.now.object.now.class ∷ [] }
+    requires judged { CanBeJudged judged.now }
+    requires columns { AreColumnsOfRows judged.now (column.now ∷ []) }
+    requires arrival { ComesTo judged.now (column.now ∷ []) arrival.now }
     ensures ready { IfOk result (λ f. AreReady spans_have judged.now.rows.now f) }
     ensures rising { IfOk result (λ f. AreRising (size_of (column_variables (column.now ∷ []))) f) }
-    ensures rows { IfOk result (λ f. (ds : List Column) → AreColumnsWith grows object.now.class judged.now.query.now.classes object.now.id (column.now ∷ []) ds → (c t : ℕ)
-        → rows_after spans_have f (row_has spans_have judged.now.rows.now) c t
-        ≡ (if (counts (column_variables ds) c && gives ds object.now.id c) && nat_le judged.now.from t
-        then (within judged.now.w.lo judged.now.w.hi t && holds_full (told_world judged.now.world.now) (resolved_view judged.now.query.now) judged.now.w.hi (object_at_number ds c) t)
-        else row_has spans_have judged.now.rows.now c t)) }
+    ensures rows { IfOk result (AreJudgedRows judged.now (column.now ∷ []) arrival.now) }
     ensures reads { StepsAtMost reads.old reads.new
-        (change_reads (catalog_of judged.now.world.now.store.now) (resolved_view judged.now.query.now) (judged.now.w.hi + 1 - judged.now.w.lo) object.now.class) }
+        (change_reads (catalog_of judged.now.world.now.store.now) (resolved_view judged.now.query.now) (judged.now.w.hi + 1 - judged.now.w.lo) arrival.now.object.now.class) }
 {
     let world = judged.world;
+    let object = arrival.object;
     let ticks = evaluate_alone(
         alloc,
         judged.query,
@@ -220,7 +176,12 @@ fn new_row<L: Ledger, M: Ledger>(
         reads,
         probes,
     )?;
-    let one_more = does_take(grows, judged.query.classes.items(), object.class, column);
+    let one_more = does_take(
+        arrival.grows,
+        judged.query.classes.items(),
+        object.class,
+        column,
+    );
     let numbers = column.numbers_with(one_more, object.id, object.place as usize);
     let judge = Alone { ticks };
     let changes = refresh(alloc, judged.rows, from_ref(&numbers), &judge, judged.from)?;

@@ -31,7 +31,7 @@ use crate::objects::place_among;
 use crate::query::LiveQuery;
 use crate::sight::Sight;
 use crate::told::{AnswerRow, Move, QueryInfo};
-use crate::written::Written;
+use crate::written::{Present, WriteTo, Written};
 use answers::StoredWorld;
 use fixed_point::Word;
 use formula::{ClassNo, RQuery};
@@ -176,16 +176,13 @@ impl Live {
     {
         let mut moves = Vec::new(alloc);
         let (touched, rest) = fresh.renewals.parts();
-        add_changes(
-            alloc,
-            &self.queries,
-            fresh.object,
-            fresh.class,
+        let prepared = Ahead {
+            object: fresh.object,
+            class: fresh.class,
             touched,
             rest,
-            now,
-            &mut moves,
-        )?;
+        };
+        add_changes(alloc, &self.queries, &prepared, now, &mut moves)?;
         Ok(moves)
     }
 
@@ -217,7 +214,11 @@ impl Live {
             (query_reads (sizes_of (catalog_of store.now) (resolved_view query)) (info.now.expiry + 1 - info.now.entry) (resolved_view query)) }
     {
         let world = StoredWorld { store, regions };
-        let added = LiveQuery::new(alloc, info, query, &world, now, reads, probes)?;
+        let present = Present {
+            world: &world,
+            tick: now,
+        };
+        let added = LiveQuery::new(alloc, info, query, &present, reads, probes)?;
         self.queries.push(added)?;
         Ok(())
     }
@@ -252,8 +253,12 @@ impl Live {
     {
         let class = class_of(store, id);
         let world = StoredWorld { store, regions };
+        let present = Present {
+            world: &world,
+            tick: now,
+        };
         let queries = &self.queries;
-        let renewals = renewals_of(alloc, queries, id, class, &world, now, reads, probes)?;
+        let renewals = renewals_of(alloc, queries, id, &present, reads, probes)?;
         Ok(Fresh {
             object: id,
             class,
@@ -283,13 +288,13 @@ fn class_of(store: &Store, id: u32) -> ClassNo
 }
 
 // An object with its place in the class, which is looked for once and not again for each query.
-fn written(store: &Store, class: ClassNo, id: u32) -> Written
-    requires there { IsObjectId store.now id }
-    requires class { class ≡ class_in store.now id }
+fn written(store: &Store, id: u32) -> Written
+    requires { IsObjectId store.now id }
     ensures written { IsOfContents store.now result }
     ensures id { result.id ≡ id }
-    ensures class { result.class ≡ class }
+    ensures class { result.class ≡ class_in store.now id }
 {
+    let class = class_of(store, id);
     let ids = store.class_names(class);
     Written {
         id,
@@ -299,34 +304,38 @@ fn written(store: &Store, class: ClassNo, id: u32) -> Written
     }
 }
 
+// What is prepared of a write so far, and where its object was seen last.
+#[derive(Drop)]
+struct Preparing {
+    renewals: Renewals,
+    sight: Sight,
+}
+
 // Adds what a write to an object makes of a query. Nothing is evaluated of one that the object misses.
 fn add_renewal<L: Ledger, M: Ledger>(
     alloc: Global,
     query: &LiveQuery,
-    object: &Written,
-    sight: &mut Sight,
-    world: &StoredWorld,
-    now: u32,
+    write: &WriteTo,
     reads: &mut Steps<L>,
     probes: &mut Steps<M>,
-    renewals: &mut Renewals,
+    made: &mut Preparing,
 ) -> Result<(), AllocError>
-    requires accepted { IsOfAcceptedWrites world.now.store.now }
-    requires fits { FitsWorld (told_world world.now) query.now }
-    requires written { IsOfContents world.now.store.now object.now }
-    requires before { (old : Catalog) × ExtendsCatalog object.now.id old (catalog_of world.now.store.now) × HaveObjectsOf old query.now.query.classes query.now.columns }
-    requires sight { IsSightOf world.now.store.now object.now.id sight.old }
-    requires few { length renewals.old < QUERY_LIMIT }
-    ensures added { OnOk result (AddsRenewal (told_world world.now) object.now.id object.now.class now query.now renewals.old renewals.new) }
-    ensures sight { IsSightOf world.now.store.now object.now.id sight.new }
+    requires accepted { IsOfAcceptedWrites write.now.present.world.now.store.now }
+    requires fits { FitsWorld (told_world write.now.present.world.now) query.now }
+    requires written { IsOfContents write.now.present.world.now.store.now write.now.object.now }
+    requires before { (old : Catalog) × ExtendsCatalog write.now.object.now.id old (catalog_of write.now.present.world.now.store.now) × HaveObjectsOf old query.now.query.classes query.now.columns }
+    requires sight { IsSightOf write.now.present.world.now.store.now write.now.object.now.id made.old.sight }
+    requires few { length made.old.renewals < QUERY_LIMIT }
+    ensures added { OnOk result (AddsRenewal (told_world write.now.present.world.now) write.now.object.now.id write.now.object.now.class write.now.present.tick query.now made.old.renewals made.new.renewals) }
+    ensures sight { IsSightOf write.now.present.world.now.store.now write.now.object.now.id made.new.sight }
     ensures reads { StepsAtMost reads.old reads.new
-        (judged_reads (catalog_of world.now.store.now) now object.now.class query.now) }
+        (judged_reads (catalog_of write.now.present.world.now.store.now) write.now.present.tick write.now.object.now.class query.now) }
 {
-    if query.is_missed(object, sight, world, now) {
-        renewals.pass();
+    if query.is_missed(write, &mut made.sight) {
+        made.renewals.pass();
         return Ok(());
     }
-    add_evaluated(alloc, query, object, world, now, reads, probes, renewals)
+    add_evaluated(alloc, query, write, reads, probes, &mut made.renewals)
 }
 
 // The same of a query that the object doesn't surely miss. Not inlined: the others are passed over in a short loop, which
@@ -335,23 +344,21 @@ fn add_renewal<L: Ledger, M: Ledger>(
 fn add_evaluated<L: Ledger, M: Ledger>(
     alloc: Global,
     query: &LiveQuery,
-    object: &Written,
-    world: &StoredWorld,
-    now: u32,
+    write: &WriteTo,
     reads: &mut Steps<L>,
     probes: &mut Steps<M>,
     renewals: &mut Renewals,
 ) -> Result<(), AllocError>
-    requires accepted { IsOfAcceptedWrites world.now.store.now }
-    requires fits { FitsWorld (told_world world.now) query.now }
-    requires object { IsObjectWithClass world.now.store.now object.now.id object.now.class }
-    requires before { (old : Catalog) × ExtendsCatalog object.now.id old (catalog_of world.now.store.now) × HaveObjectsOf old query.now.query.classes query.now.columns }
+    requires accepted { IsOfAcceptedWrites write.now.present.world.now.store.now }
+    requires fits { FitsWorld (told_world write.now.present.world.now) query.now }
+    requires object { IsObjectWithClass write.now.present.world.now.store.now write.now.object.now.id write.now.object.now.class }
+    requires before { (old : Catalog) × ExtendsCatalog write.now.object.now.id old (catalog_of write.now.present.world.now.store.now) × HaveObjectsOf old query.now.query.classes query.now.columns }
     requires few { length renewals.old < QUERY_LIMIT }
-    ensures added { OnOk result (AddsRenewal (told_world world.now) object.now.id object.now.class now query.now renewals.old renewals.new) }
+    ensures added { OnOk result (AddsRenewal (told_world write.now.present.world.now) write.now.object.now.id write.now.object.now.class write.now.present.tick query.now renewals.old renewals.new) }
     ensures reads { StepsAtMost reads.old reads.new
-        (judged_reads (catalog_of world.now.store.now) now object.now.class query.now) }
+        (judged_reads (catalog_of write.now.present.world.now.store.now) write.now.present.tick write.now.object.now.class query.now) }
 {
-    let renewal = query.renewal(alloc, object, world, now, reads, probes)?;
+    let renewal = query.renewal(alloc, write, reads, probes)?;
     renewals.add(renewal)?;
     Ok(())
 }
@@ -363,43 +370,36 @@ fn renewals_of<L: Ledger, M: Ledger>(
     alloc: Global,
     queries: &[LiveQuery],
     id: u32,
-    class: ClassNo,
-    world: &StoredWorld,
-    now: u32,
+    present: &Present,
     reads: &mut Steps<L>,
     probes: &mut Steps<M>,
 ) -> Result<Renewals, AllocError>
     requires few { length queries.now ≤ QUERY_LIMIT }
-    requires accepted { IsOfAcceptedWrites world.now.store.now }
-    requires fits { All (FitsWorld (told_world world.now)) queries.now }
-    requires there { IsObjectId world.now.store.now id }
-    requires class { class ≡ class_in world.now.store.now id }
-    requires before { HaveObjectsBefore id (catalog_of world.now.store.now) queries.now }
-    ensures prepared { IfOk result (λ renewals. ArePrepared class queries.now renewals) }
-    ensures fresh { IfOk result (λ renewals. AreFreshFor (told_world world.now) id class now queries.now renewals) }
-    ensures reads { StepsAtMost reads.old reads.new (all_judged_reads (catalog_of world.now.store.now) queries.now now class) }
+    requires accepted { IsOfAcceptedWrites present.now.world.now.store.now }
+    requires fits { All (FitsWorld (told_world present.now.world.now)) queries.now }
+    requires there { IsObjectId present.now.world.now.store.now id }
+    requires before { HaveObjectsBefore id (catalog_of present.now.world.now.store.now) queries.now }
+    ensures prepared { IfOk result (λ renewals. ArePrepared (class_in present.now.world.now.store.now id) queries.now renewals) }
+    ensures fresh { IfOk result (λ renewals. AreFreshFor (told_world present.now.world.now) id (class_in present.now.world.now.store.now id) present.now.tick queries.now renewals) }
+    ensures reads { StepsAtMost reads.old reads.new (all_judged_reads (catalog_of present.now.world.now.store.now) queries.now present.now.tick (class_in present.now.world.now.store.now id)) }
 {
-    let mut renewals = Renewals::new(alloc);
+    let renewals = Renewals::new(alloc);
     if queries.is_empty() {
         return Ok(renewals);
     }
-    let object = written(world.store, class, id);
-    let mut sight = Sight::none();
+    let object = written(present.world.store, id);
+    let write = WriteTo {
+        object: &object,
+        present: *present,
+    };
+    let sight = Sight::none();
+    let mut made = Preparing { renewals, sight };
     let mut rest = queries;
     'queries: while let Some((query, later)) = rest.split_first() {
-        add_renewal(
-            alloc,
-            query,
-            &object,
-            &mut sight,
-            world,
-            now,
-            reads,
-            probes,
-            &mut renewals,
-        )?;
+        add_renewal(alloc, query, &write, reads, probes, &mut made)?;
         rest = later;
     }
+    let Preparing { renewals, sight: _ } = made;
     Ok(renewals)
 }
 
@@ -443,28 +443,41 @@ fn advance_each(queries: &mut [LiveQuery], now: u32)
     advance_each(queries, now);
 }
 
-// Adds what changes for the targets of these queries, of which some are touched and so many stand after the last one.
+// What is prepared of a write to an object for the queries that are left: some are touched, and so many stand after the last
+// one.
+#[derive(Clone, Copy)]
+struct Ahead<'a> {
+    object: u32,
+    class: ClassNo,
+    touched: &'a [Touched],
+    rest: usize,
+}
+
+// Adds what changes for the targets of these queries.
 fn add_changes(
     alloc: Global,
     queries: &[LiveQuery],
-    object: u32,
-    class: ClassNo,
-    touched: &[Touched],
-    rest: usize,
+    prepared: &Ahead,
     now: u32,
     moves: &mut Vec<Move>,
 ) -> Result<(), AllocError>
-    requires { ArePrepared class queries.now (spread touched.now rest) }
-    ensures { OnOk result (moves.new.items ≡ moves.old.items ++ changes_of object now queries.now (spread touched.now rest)) }
+    requires { ArePrepared prepared.now.class queries.now (spread prepared.now.touched.now prepared.now.rest) }
+    ensures { OnOk result (moves.new.items ≡ moves.old.items ++ changes_of prepared.now.object now queries.now (spread prepared.now.touched.now prepared.now.rest)) }
 {
-    let Some((first, touched)) = touched.split_first() else {
+    let Some((first, touched)) = prepared.touched.split_first() else {
         return Ok(());
     };
     let Some((query, queries)) = after(queries, first.passed).split_first() else {
         return Ok(());
     };
-    query.add_moves(alloc, object, &first.renewal.changes, now, moves)?;
-    add_changes(alloc, queries, object, class, touched, rest, now, moves)
+    query.add_moves(alloc, prepared.object, &first.renewal.changes, now, moves)?;
+    let ahead = Ahead {
+        object: prepared.object,
+        class: prepared.class,
+        touched,
+        rest: prepared.rest,
+    };
+    add_changes(alloc, queries, &ahead, now, moves)
 }
 
 // The queries after the first so many.

@@ -17,15 +17,15 @@ ghost use Rattle.live_queries.specs.Written.{ArePartsOf, domains_for, ids_for, s
 ghost use Rattle.steps.specs.Counting.{StepsAtMost};
 
 use crate::objects::is_of_class;
-use answers::{StoredWorld, evaluate};
-use formula::{ClassNo, RQuery};
+use crate::written::{Judged, Written};
+use answers::evaluate;
+use formula::ClassNo;
 use interval_set::IntervalSet;
 use object_store::Store;
 use relation::{Domains, Relation};
 use std::alloc::{AllocError, Global};
 use std::sync::ledger::Ledger;
 use steps::Steps;
-use tick_set::Window;
 
 /// The objects that each variable ranges over, where one variable is one object alone.
 #[derive(Drop)]
@@ -47,16 +47,15 @@ pub(crate) fn singles(
     alloc: Global,
     classes: &[ClassNo],
     store: &Store,
-    class: ClassNo,
-    id: u32,
+    object: &Written,
 ) -> Result<Vec<Single>, AllocError>
     requires { FitInQuery classes.now }
     ensures { IfOk result (λ singles. singles.items
-        ≡ flat_map (single_for (catalog_of store.now) classes.now class id) (between 0 (length classes.now))) }
+        ≡ flat_map (single_for (catalog_of store.now) classes.now object.now.class object.now.id) (between 0 (length classes.now))) }
 {
     let mut singles = Vec::new(alloc);
     'variables: for variable in 0..classes.len() as u8 {
-        add_single(alloc, classes, store, class, id, variable, &mut singles)?;
+        add_single(alloc, classes, store, object, variable, &mut singles)?;
     }
     Ok(singles)
 }
@@ -66,18 +65,17 @@ fn add_single(
     alloc: Global,
     classes: &[ClassNo],
     store: &Store,
-    class: ClassNo,
-    id: u32,
+    object: &Written,
     variable: u8,
     singles: &mut Vec<Single>,
 ) -> Result<(), AllocError>
     requires { FitInQuery classes.now }
-    ensures { OnOk result (singles.new.items ≡ singles.old.items ++ single_for (catalog_of store.now) classes.now class id variable) }
+    ensures { OnOk result (singles.new.items ≡ singles.old.items ++ single_for (catalog_of store.now) classes.now object.now.class object.now.id variable) }
 {
-    if !is_of_class(classes, variable, class) {
+    if !is_of_class(classes, variable, object.class) {
         return Ok(());
     }
-    let domains = domains_for(alloc, classes, store, id, variable)?;
+    let domains = domains_for(alloc, classes, store, object.id, variable)?;
     singles.push(Single { variable, domains })?;
     Ok(())
 }
@@ -122,33 +120,32 @@ fn ids_for<'a>(
 /// The relations over such objects, one for each variable that is the object. It fails only where memory is out.
 pub(crate) fn parts_of<'d, L: Ledger, M: Ledger>(
     alloc: Global,
-    query: &RQuery,
+    judged: &Judged,
     singles: &'d [Single],
-    world: &StoredWorld,
-    w: Window,
     reads: &mut Steps<L>,
     probes: &mut Steps<M>,
 ) -> Result<Vec<Part<'d>>, AllocError>
-    requires accepted { IsOfAcceptedWrites world.now.store.now }
-    requires resolved { IsResolved (resolved_view query.now) }
-    requires fits { FitsItsClasses (told_world world.now) (resolved_view query.now) }
-    requires domains { All (λ s. AreOfItsClasses (catalog_of world.now.store.now) (resolved_view query.now) s.domains) singles.now }
-    requires length { IsQueryWindow w }
-    ensures parts { IfOk result (λ parts. ArePartsOf (told_world world.now) (resolved_view query.now) w.lo w.hi singles.now parts.items) }
+    requires accepted { IsOfAcceptedWrites judged.now.world.now.store.now }
+    requires resolved { IsResolved (resolved_view judged.now.query.now) }
+    requires fits { FitsItsClasses (told_world judged.now.world.now) (resolved_view judged.now.query.now) }
+    requires domains { All (λ s. AreOfItsClasses (catalog_of judged.now.world.now.store.now) (resolved_view judged.now.query.now) s.domains) singles.now }
+    requires length { IsQueryWindow judged.now.w }
+    ensures parts { IfOk result (λ parts. ArePartsOf (told_world judged.now.world.now) (resolved_view judged.now.query.now) judged.now.w.lo judged.now.w.hi singles.now parts.items) }
     ensures reads { StepsAtMost reads.old reads.new
-        (sum_by (λ s. query_reads (domain_size s.domains) (w.hi + 1 - w.lo) (resolved_view query.now)) singles.now) }
+        (sum_by (λ s. query_reads (domain_size s.domains) (judged.now.w.hi + 1 - judged.now.w.lo) (resolved_view judged.now.query.now)) singles.now) }
 {
+    let world = judged.world;
     let mut parts = Vec::with_capacity(alloc, singles.len())?;
     let mut rest = singles;
     'singles: while let Some((single, later)) = rest.split_first() {
         let domains = &single.domains;
         let rows = evaluate(
             alloc,
-            query,
+            judged.query,
             domains,
             world.store,
             world.regions,
-            w,
+            judged.w,
             reads,
             probes,
         )?;

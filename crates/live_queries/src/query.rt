@@ -41,8 +41,8 @@ use crate::lone::{Lone, has_all, lone_of};
 use crate::objects::{Objects, add_object, objects_of, width};
 use crate::sight::Sight;
 use crate::told::{AnswerRow, Move, QueryInfo};
-use crate::written::{Judged, Written};
-use answers::{StoredWorld, fitting_queries_can_be_asked};
+use crate::written::{Arrival, Inquiry, Judged, Present, WriteTo, Written};
+use answers::fitting_queries_can_be_asked;
 use fixed_point::Word;
 use formula::{Binding, ClassNo, QueryKind, RQuery, reach_of};
 use interval_set::IntervalSet;
@@ -101,34 +101,29 @@ impl LiveQuery {
         alloc: Global,
         info: &QueryInfo,
         query: RQuery,
-        world: &StoredWorld,
-        now: u32,
+        present: &Present,
         reads: &mut Steps<L>,
         probes: &mut Steps<M>,
     ) -> Result<LiveQuery, AllocError>
-        requires accepted { IsOfAcceptedWrites world.now.store.now }
+        requires accepted { IsOfAcceptedWrites present.now.world.now.store.now }
         requires resolved { IsResolved (resolved_view query) }
-        requires fits { FitsItsClasses (told_world world.now) (resolved_view query) }
-        requires size { most_bindings (catalog_of world.now.store.now).classes query.classes ≤ BINDING_LIMIT }
+        requires fits { FitsItsClasses (told_world present.now.world.now) (resolved_view query) }
+        requires size { most_bindings (catalog_of present.now.world.now.store.now).classes query.classes ≤ BINDING_LIMIT }
         requires ends { AreQueryEnds info.now.entry info.now.expiry }
-        ensures registered { IfOk result (IsRegistered (told_world world.now) now (told_info info.now) (resolved_view query)) }
+        ensures registered { IfOk result (IsRegistered (told_world present.now.world.now) present.now.tick (told_info info.now) (resolved_view query)) }
         ensures kept { IfOk result IsKeptQuery }
         ensures reads { StepsAtMost reads.old reads.new
-            (query_reads (sizes_of (catalog_of world.now.store.now) (resolved_view query)) (info.now.expiry + 1 - info.now.entry) (resolved_view query)) }
+            (query_reads (sizes_of (catalog_of present.now.world.now.store.now) (resolved_view query)) (info.now.expiry + 1 - info.now.entry) (resolved_view query)) }
     {
         fitting_queries_can_be_asked();
-        let columns = columns_of(alloc, &query, world.store)?;
-        let lo = first_told(info.kind, info.entry, now);
-        let mut rows = rows_between(
-            alloc,
-            &query,
-            &columns,
-            world,
-            lo,
-            info.expiry,
-            reads,
-            probes,
-        )?;
+        let columns = columns_of(alloc, &query, present.world.store)?;
+        let lo = first_told(info.kind, info.entry, present.tick);
+        let inquiry = Inquiry {
+            query: &query,
+            columns: &columns,
+            world: present.world,
+        };
+        let mut rows = rows_between(alloc, &inquiry, lo, info.expiry, reads, probes)?;
         let targets = targets_of(&columns, query.targets.items().len());
         file_rows(alloc, &mut rows, targets)?;
         let lone = lone_of(&query, &columns);
@@ -151,54 +146,48 @@ impl LiveQuery {
     pub(crate) fn renewal<L: Ledger, M: Ledger>(
         &self,
         alloc: Global,
-        object: &Written,
-        world: &StoredWorld,
-        now: u32,
+        write: &WriteTo,
         reads: &mut Steps<L>,
         probes: &mut Steps<M>,
     ) -> Result<Option<Renewal>, AllocError>
-        requires accepted { IsOfAcceptedWrites world.now.store.now }
-        requires fits { FitsWorld (told_world world.now) self.now }
-        requires object { IsObjectWithClass world.now.store.now object.now.id object.now.class }
-        requires before { (old : Catalog) × ExtendsCatalog object.now.id old (catalog_of world.now.store.now) × HaveObjectsOf old self.now.query.classes self.now.columns }
-        ensures ready { IfOk result (λ r. IsReadyFor object.now.class self.now (or_untouched r)) }
-        ensures fresh { IfOk result (λ r. IsFreshFor (told_world world.now) object.now.id object.now.class now self.now (or_untouched r)) }
-        ensures touched { IfOk result (λ r. IfSome r (TouchesQuery object.now.class now self.now)) }
+        requires accepted { IsOfAcceptedWrites write.now.present.world.now.store.now }
+        requires fits { FitsWorld (told_world write.now.present.world.now) self.now }
+        requires object { IsObjectWithClass write.now.present.world.now.store.now write.now.object.now.id write.now.object.now.class }
+        requires before { (old : Catalog) × ExtendsCatalog write.now.object.now.id old (catalog_of write.now.present.world.now.store.now) × HaveObjectsOf old self.now.query.classes self.now.columns }
+        ensures ready { IfOk result (λ r. IsReadyFor write.now.object.now.class self.now (or_untouched r)) }
+        ensures fresh { IfOk result (λ r. IsFreshFor (told_world write.now.present.world.now) write.now.object.now.id write.now.object.now.class write.now.present.tick self.now (or_untouched r)) }
+        ensures touched { IfOk result (λ r. IfSome r (TouchesQuery write.now.object.now.class write.now.present.tick self.now)) }
         ensures reads { StepsAtMost reads.old reads.new
-            (judged_reads (catalog_of world.now.store.now) now object.now.class self.now) }
+            (judged_reads (catalog_of write.now.present.world.now.store.now) write.now.present.tick write.now.object.now.class self.now) }
     {
+        let object = write.object;
         let classes = self.query.classes.items();
         if !has_class(classes, object.class) {
             return Ok(None);
         }
-        let count = class_count(world.store, object.class);
+        let count = class_count(write.present.world.store, object.class);
         let grows = lack(&self.columns, classes, object.class, count);
-        if self.stays(now, grows) {
+        if self.stays(write.present.tick, grows) {
             return Ok(None);
         }
-        let changes = self.new_rows(alloc, object, grows, world, now, reads, probes)?;
+        let changes = self.new_rows(alloc, write, grows, reads, probes)?;
         Ok(renewal_if_any(grows, changes))
     }
 
     /// Whether a write to an object leaves it as it is: its only variable is of the object's class, the row of the object
     /// is empty, and the object can't be where its formula needs it. It takes no memory, and no timeline is looked at.
-    pub(crate) fn is_missed(
-        &self,
-        object: &Written,
-        sight: &mut Sight,
-        world: &StoredWorld,
-        now: u32,
-    ) -> bool
-        requires written { IsOfContents world.now.store.now object.now }
-        requires before { (old : Catalog) × ExtendsCatalog object.now.id old (catalog_of world.now.store.now) × HaveObjectsOf old self.now.query.classes self.now.columns }
-        requires sight { IsSightOf world.now.store.now object.now.id sight.old }
-        ensures fresh { result ≡ true → IsFreshFor (told_world world.now) object.now.id object.now.class now self.now untouched }
-        ensures sight { IsSightOf world.now.store.now object.now.id sight.new }
+    pub(crate) fn is_missed(&self, write: &WriteTo, sight: &mut Sight) -> bool
+        requires written { IsOfContents write.now.present.world.now.store.now write.now.object.now }
+        requires before { (old : Catalog) × ExtendsCatalog write.now.object.now.id old (catalog_of write.now.present.world.now.store.now) × HaveObjectsOf old self.now.query.classes self.now.columns }
+        requires sight { IsSightOf write.now.present.world.now.store.now write.now.object.now.id sight.old }
+        ensures fresh { result ≡ true → IsFreshFor (told_world write.now.present.world.now) write.now.object.now.id write.now.object.now.class write.now.present.tick self.now untouched }
+        ensures sight { IsSightOf write.now.present.world.now.store.now write.now.object.now.id sight.new }
     {
+        let now = write.present.tick;
         if self.expiry < now {
             return false;
         }
-        if !self.has_clear_row(object) {
+        if !self.has_clear_row(write.object) {
             return false;
         }
         let judged = self.judged_from(now);
@@ -206,7 +195,7 @@ impl LiveQuery {
             lo: first_judged(self.entry, judged),
             hi: self.expiry,
         };
-        sight.misses(&self.query, object.id, world, w)
+        sight.misses(&self.query, write.object.id, write.present.world, w)
     }
 
     // Whether its only variable ranges over all objects of the class of this one, whose row is empty.
@@ -236,24 +225,23 @@ impl LiveQuery {
     fn new_rows<L: Ledger, M: Ledger>(
         &self,
         alloc: Global,
-        object: &Written,
+        write: &WriteTo,
         grows: bool,
-        world: &StoredWorld,
-        now: u32,
         reads: &mut Steps<L>,
         probes: &mut Steps<M>,
     ) -> Result<Changes<IntervalSet>, AllocError>
-        requires accepted { IsOfAcceptedWrites world.now.store.now }
-        requires fits { FitsItsClasses (told_world world.now) self.now.query }
-        requires object { IsObjectWithClass world.now.store.now object.now.id object.now.class }
-        requires room { grows ≡ true → HaveRoomFor object.now.class self.now.query.classes self.now.columns }
-        requires objects { HaveObjectsWith (catalog_of world.now.store.now) grows object.now.class self.now.query.classes object.now.id self.now.columns }
+        requires accepted { IsOfAcceptedWrites write.now.present.world.now.store.now }
+        requires fits { FitsItsClasses (told_world write.now.present.world.now) self.now.query }
+        requires object { IsObjectWithClass write.now.present.world.now.store.now write.now.object.now.id write.now.object.now.class }
+        requires room { grows ≡ true → HaveRoomFor write.now.object.now.class self.now.query.classes self.now.columns }
+        requires objects { HaveObjectsWith (catalog_of write.now.present.world.now.store.now) grows write.now.object.now.class self.now.query.classes write.now.object.now.id self.now.columns }
         ensures ready { IfOk result (AreReady spans_have self.now.pages) }
         ensures rising { IfOk result (AreRising (size_of (column_variables self.now.columns))) }
-        ensures rows { IfOk result (AreNewRows (told_world world.now) grows object.now.id object.now.class now self.now) }
+        ensures rows { IfOk result (AreNewRows (told_world write.now.present.world.now) grows write.now.object.now.id write.now.object.now.class write.now.present.tick self.now) }
         ensures reads { StepsAtMost reads.old reads.new
-            (judged_reads (catalog_of world.now.store.now) now object.now.class self.now) }
+            (judged_reads (catalog_of write.now.present.world.now.store.now) write.now.present.tick write.now.object.now.class self.now) }
     {
+        let now = write.present.tick;
         if self.expiry < now {
             return Ok(Changes::new(alloc));
         }
@@ -261,14 +249,18 @@ impl LiveQuery {
         let judged = Judged {
             query: &self.query,
             rows: &self.rows,
-            world,
+            world: write.present.world,
             w: Window {
                 lo: first_judged(self.entry, judged),
                 hi: self.expiry,
             },
             from: kept_before(self.kind, judged),
         };
-        let changes = new_rows(alloc, &judged, &self.columns, object, grows, reads, probes)?;
+        let arrival = Arrival {
+            object: write.object,
+            grows,
+        };
+        let changes = new_rows(alloc, &judged, &self.columns, &arrival, reads, probes)?;
         Ok(changes)
     }
 

@@ -7,10 +7,10 @@ use Rattle.live_queries.proofs.columns.numbers_with.Given as goal
 -- the numbers so far and those of the rest are those of all columns
 abbrev pub invariant-columns : goal.invariant-columns
 invariant-columns l = record {
-  room : l.grows ≡ true → HaveRoomFor l.class l.classes l.rest;
-  ascending : DoAscendWith l.grows l.class l.classes l.id l.rest;
-  made : (more : List Variable) → AreVariablesWith l.grows l.class l.classes l.id l.rest more
-      → AreVariablesWith l.grows l.class l.classes l.id l.columns (l.numbers.items ++ more);
+  room : l.arrival.grows ≡ true → HaveRoomFor l.arrival.object.now.class l.classes l.rest;
+  ascending : DoAscendWith l.arrival.grows l.arrival.object.now.class l.classes l.arrival.object.now.id l.rest;
+  made : (more : List Variable) → AreVariablesWith l.arrival.grows l.arrival.object.now.class l.classes l.arrival.object.now.id l.rest more
+      → AreVariablesWith l.arrival.grows l.arrival.object.now.class l.classes l.arrival.object.now.id l.columns (l.numbers.items ++ more);
 }
 
 abbrev pub decreases-columns : goal.decreases-columns

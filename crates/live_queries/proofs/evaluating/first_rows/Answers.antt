@@ -12,21 +12,21 @@ use Rattle.live_queries.proofs.JudgedLemmas.{first_rows_are, is_over}
 use Rattle.live_queries.proofs.evaluating.first_rows.Goals as goal
 
 pub domains_of-requires : goal.domains_of-requires
-domains_of-requires g c = few_classes (resolved_view c.args.query.now) c.requires.resolved
+domains_of-requires g c = few_classes (resolved_view c.args.inquiry.now.query.now) c.requires.resolved
 
 pub evaluate-requires-clause-domains : goal.evaluate-requires-clause-domains
 evaluate-requires-clause-domains g c =
-    subst (AreOfItsClasses (catalog_of c.args.world.now.store.now) (resolved_view c.args.query.now)) (sym c.in_ok-domains.ensures)
-    (domains_are_of_classes (catalog_of c.args.world.now.store.now) (resolved_view c.args.query.now))
+    subst (AreOfItsClasses (catalog_of c.args.inquiry.now.world.now.store.now) (resolved_view c.args.inquiry.now.query.now)) (sym c.in_ok-domains.ensures)
+    (domains_are_of_classes (catalog_of c.args.inquiry.now.world.now.store.now) (resolved_view c.args.inquiry.now.query.now))
 
 pub table_of-requires-clause-over : goal.table_of-requires-clause-over
 table_of-requires-clause-over g c =
-    is_over (told_world c.args.world.now) (resolved_view c.args.query.now) c.args.w.lo c.args.w.hi c.args.columns.now c.in_ok-domains.domains c.in_ok-full.full
+    is_over (told_world c.args.inquiry.now.world.now) (resolved_view c.args.inquiry.now.query.now) c.args.w.lo c.args.w.hi c.args.inquiry.now.columns.now c.in_ok-domains.domains c.in_ok-full.full
     c.requires.resolved c.requires.columns c.in_ok-domains.ensures c.in_ok-full.ensures.vars c.in_ok-full.ensures.frame
 
 pub returns-clause-rows : goal.returns-clause-rows
 returns-clause-rows g c =
-    first_rows_are (told_world c.args.world.now) (resolved_view c.args.query.now) c.args.w.lo c.args.w.hi c.args.columns.now
+    first_rows_are (told_world c.args.inquiry.now.world.now) (resolved_view c.args.inquiry.now.query.now) c.args.w.lo c.args.w.hi c.args.inquiry.now.columns.now
     c.in_ok-domains.domains c.in_ok-full.full (row_has spans_have c.in_ok-rows.rows)
     c.requires.resolved c.requires.columns c.in_ok-domains.ensures c.in_ok-full.ensures.rows c.in_ok-rows.ensures.rows
 
@@ -34,19 +34,19 @@ pub returns-in_err-full-clause-reads : goal.returns-in_err-full-clause-reads
 returns-in_err-full-clause-reads g c = record {
   least = omega arith;
   most = (most_within _ _ _ _ c.in_err-full.ensures.reads.most
-      (reads_within (catalog_of c.args.world.now.store.now) (resolved_view c.args.query.now) _ (c.args.w.hi + 1 - c.args.w.lo) c.in_ok-domains.ensures));
+      (reads_within (catalog_of c.args.inquiry.now.world.now.store.now) (resolved_view c.args.inquiry.now.query.now) _ (c.args.w.hi + 1 - c.args.w.lo) c.in_ok-domains.ensures));
 }
 
 pub returns-in_err-rows-clause-reads : goal.returns-in_err-rows-clause-reads
 returns-in_err-rows-clause-reads g c = record {
   least = omega arith;
   most = (most_within _ _ _ _ c.in_ok-full.ensures.reads.most
-      (reads_within (catalog_of c.args.world.now.store.now) (resolved_view c.args.query.now) _ (c.args.w.hi + 1 - c.args.w.lo) c.in_ok-domains.ensures));
+      (reads_within (catalog_of c.args.inquiry.now.world.now.store.now) (resolved_view c.args.inquiry.now.query.now) _ (c.args.w.hi + 1 - c.args.w.lo) c.in_ok-domains.ensures));
 }
 
 pub returns-clause-reads : goal.returns-clause-reads
 returns-clause-reads g c = record {
   least = omega arith;
   most = (most_within _ _ _ _ c.in_ok-full.ensures.reads.most
-      (reads_within (catalog_of c.args.world.now.store.now) (resolved_view c.args.query.now) _ (c.args.w.hi + 1 - c.args.w.lo) c.in_ok-domains.ensures));
+      (reads_within (catalog_of c.args.inquiry.now.world.now.store.now) (resolved_view c.args.inquiry.now.query.now) _ (c.args.w.hi + 1 - c.args.w.lo) c.in_ok-domains.ensures));
 }

@@ -17,54 +17,54 @@ use Rattle.live_queries.proofs.evaluating.new_row.Goals as goal
 
 pub evaluate_alone-requires-clause-object : goal.evaluate_alone-requires-clause-object
 evaluate_alone-requires-clause-object g c =
-    one_of_class c.args.judged.now.world.now.store.now (resolved_view c.args.judged.now.query.now) c.args.object.now.class c.args.object.now.id c.requires.object.class c.requires.alone c.requires.object.there
+    one_of_class c.args.judged.now.world.now.store.now (resolved_view c.args.judged.now.query.now) c.args.arrival.now.object.now.class c.args.arrival.now.object.now.id c.requires.arrival.object.class c.requires.alone c.requires.arrival.object.there
 
 pub numbers_with-numbers-requires-clause-room : goal.numbers_with-numbers-requires-clause-room
 numbers_with-numbers-requires-clause-room g c = λ e.
-    let does : takes_object c.args.grows c.args.object.now.class c.args.judged.now.query.now.classes c.args.column.now ≡ true =
-    sym (c.does_take-one_more.ensures ∙ ap (λ (ks : List ℕ). takes_object c.args.grows c.args.object.now.class ks c.args.column.now) c.items.ensures) ∙ e in
-    let parts = and_parts c.args.grows (is_of_class c.args.judged.now.query.now.classes c.args.object.now.class c.args.column.now.variable) does in
-    (c.requires.room parts.0).0 parts.1
+    let does : takes_object c.args.arrival.now.grows c.args.arrival.now.object.now.class c.args.judged.now.query.now.classes c.args.column.now ≡ true =
+    sym (c.does_take-one_more.ensures ∙ ap (λ (ks : List ℕ). takes_object c.args.arrival.now.grows c.args.arrival.now.object.now.class ks c.args.column.now) c.items.ensures) ∙ e in
+    let parts = and_parts c.args.arrival.now.grows (is_of_class c.args.judged.now.query.now.classes c.args.arrival.now.object.now.class c.args.column.now.variable) does in
+    (c.requires.arrival.room parts.0).0 parts.1
 
 pub numbers_with-numbers-requires-clause-ascending : goal.numbers_with-numbers-requires-clause-ascending
 numbers_with-numbers-requires-clause-ascending g c =
-    subst (λ (b : Bool). IsStrictlyIncreasing (ids_with b c.args.object.now.id c.args.column.now))
-    (sym (c.does_take-one_more.ensures ∙ ap (λ (ks : List ℕ). takes_object c.args.grows c.args.object.now.class ks c.args.column.now) c.items.ensures))
-    (do_ascend (catalog_of c.args.judged.now.world.now.store.now) c.args.grows c.args.object.now.class c.args.judged.now.query.now.classes c.args.object.now.id (c.args.column.now ∷ []) c.requires.objects).0
+    subst (λ (b : Bool). IsStrictlyIncreasing (ids_with b c.args.arrival.now.object.now.id c.args.column.now))
+    (sym (c.does_take-one_more.ensures ∙ ap (λ (ks : List ℕ). takes_object c.args.arrival.now.grows c.args.arrival.now.object.now.class ks c.args.column.now) c.items.ensures))
+    (do_ascend (catalog_of c.args.judged.now.world.now.store.now) c.args.arrival.now.grows c.args.arrival.now.object.now.class c.args.judged.now.query.now.classes c.args.arrival.now.object.now.id (c.args.column.now ∷ []) c.requires.arrival.objects).0
 
 pub returns-clause-rows : goal.returns-clause-rows
 returns-clause-rows g c = λ ds made.
-    rows_are c.args.judged.now.world.now.store.now c.args.judged.now.world.now.regions.now (resolved_view c.args.judged.now.query.now) c.requires.resolved c.args.object.now.class c.args.object.now.id c.requires.object.class
-    c.args.judged.now.w.lo c.args.judged.now.w.hi c.args.judged.now.from c.args.grows (c.args.column.now ∷ []) c.from_ref.result.now
-    (subst (AreVariablesWith c.args.grows c.args.object.now.class c.args.judged.now.query.now.classes c.args.object.now.id (c.args.column.now ∷ [])) (sym c.from_ref.ensures.value) (
-      subst (λ (b : Bool). IsVariableWith b c.args.object.now.id c.args.column.now c.numbers_with-numbers.result)
-          (c.does_take-one_more.ensures ∙ ap (λ (ks : List ℕ). takes_object c.args.grows c.args.object.now.class ks c.args.column.now) c.items.ensures)
+    rows_are c.args.judged.now.world.now.store.now c.args.judged.now.world.now.regions.now (resolved_view c.args.judged.now.query.now) c.requires.judged.resolved c.args.arrival.now.object.now.class c.args.arrival.now.object.now.id c.requires.arrival.object.class
+    c.args.judged.now.w.lo c.args.judged.now.w.hi c.args.judged.now.from c.args.arrival.now.grows (c.args.column.now ∷ []) c.from_ref.result.now
+    (subst (AreVariablesWith c.args.arrival.now.grows c.args.arrival.now.object.now.class c.args.judged.now.query.now.classes c.args.arrival.now.object.now.id (c.args.column.now ∷ [])) (sym c.from_ref.ensures.value) (
+      subst (λ (b : Bool). IsVariableWith b c.args.arrival.now.object.now.id c.args.column.now c.numbers_with-numbers.result)
+          (c.does_take-one_more.ensures ∙ ap (λ (ks : List ℕ). takes_object c.args.arrival.now.grows c.args.arrival.now.object.now.class ks c.args.column.now) c.items.ensures)
           c.numbers_with-numbers.ensures,
       tt,
     ))
     (λ n t. spans_have c.in_ok-ticks.ticks t) (row_has spans_have c.args.judged.now.rows.now) _ c.in_ok-changes.ensures.rows ds made
     (λ n here holding t. c.in_ok-ticks.ensures.ticks (object_at_number ds n)
-    (one_object (resolved_view c.args.judged.now.query.now) c.requires.resolved (ap length c.requires.alone) ds
-    (same_order c.args.grows c.args.object.now.class c.args.judged.now.query.now.classes c.args.object.now.id (c.args.column.now ∷ []) ds made ∙ c.requires.order)
-    c.args.object.now.id n holding) t)
+    (one_object (resolved_view c.args.judged.now.query.now) c.requires.judged.resolved (ap length c.requires.alone) ds
+    (same_order c.args.arrival.now.grows c.args.arrival.now.object.now.class c.args.judged.now.query.now.classes c.args.arrival.now.object.now.id (c.args.column.now ∷ []) ds made ∙ c.requires.columns.order)
+    c.args.arrival.now.object.now.id n holding) t)
 
 pub returns-in_err-ticks-clause-reads : goal.returns-in_err-ticks-clause-reads
 returns-in_err-ticks-clause-reads g c = record {
   least = omega arith;
   most = (most_within _ _ _ _ c.in_err-ticks.ensures.reads.most
-      (one_within (catalog_of c.args.judged.now.world.now.store.now) (resolved_view c.args.judged.now.query.now) (c.args.judged.now.w.hi + 1 - c.args.judged.now.w.lo) c.args.object.now.class c.args.object.now.id c.requires.alone));
+      (one_within (catalog_of c.args.judged.now.world.now.store.now) (resolved_view c.args.judged.now.query.now) (c.args.judged.now.w.hi + 1 - c.args.judged.now.w.lo) c.args.arrival.now.object.now.class c.args.arrival.now.object.now.id c.requires.alone));
 }
 
 pub returns-in_err-changes-clause-reads : goal.returns-in_err-changes-clause-reads
 returns-in_err-changes-clause-reads g c = record {
   least = omega arith;
   most = (most_within _ _ _ _ c.in_ok-ticks.ensures.reads.most
-      (one_within (catalog_of c.args.judged.now.world.now.store.now) (resolved_view c.args.judged.now.query.now) (c.args.judged.now.w.hi + 1 - c.args.judged.now.w.lo) c.args.object.now.class c.args.object.now.id c.requires.alone));
+      (one_within (catalog_of c.args.judged.now.world.now.store.now) (resolved_view c.args.judged.now.query.now) (c.args.judged.now.w.hi + 1 - c.args.judged.now.w.lo) c.args.arrival.now.object.now.class c.args.arrival.now.object.now.id c.requires.alone));
 }
 
 pub returns-clause-reads : goal.returns-clause-reads
 returns-clause-reads g c = record {
   least = omega arith;
   most = (most_within _ _ _ _ c.in_ok-ticks.ensures.reads.most
-      (one_within (catalog_of c.args.judged.now.world.now.store.now) (resolved_view c.args.judged.now.query.now) (c.args.judged.now.w.hi + 1 - c.args.judged.now.w.lo) c.args.object.now.class c.args.object.now.id c.requires.alone));
+      (one_within (catalog_of c.args.judged.now.world.now.store.now) (resolved_view c.args.judged.now.query.now) (c.args.judged.now.w.hi + 1 - c.args.judged.now.w.lo) c.args.arrival.now.object.now.class c.args.arrival.now.object.now.id c.requires.alone));
 }

@@ -15,7 +15,7 @@ use Rattle.live_queries.proofs.parts.parts_of.Goals as goal
 pub singles-init : goal.singles-init
 singles-init g c = record {
   domains = c.requires.domains;
-  made = pairs_begin (ArePartsOf (told_world c.args.world.now) (resolved_view c.args.query.now) c.args.w.lo c.args.w.hi)
+  made = pairs_begin (ArePartsOf (told_world c.args.judged.now.world.now) (resolved_view c.args.judged.now.query.now) c.args.judged.now.w.lo c.args.judged.now.w.hi)
       c.args.singles.now c.args.singles.now c.in_ok-parts.parts.items refl c.in_ok-parts.ensures.items;
   least = omega arith;
   most = omega arith;
@@ -23,17 +23,17 @@ singles-init g c = record {
 
 pub evaluate-requires-clause-domains : goal.evaluate-requires-clause-domains
 evaluate-requires-clause-domains g c =
-    All-head (λ (s : Single). AreOfItsClasses (catalog_of c.args.world.now.store.now) (resolved_view c.args.query.now) s.domains)
+    All-head (λ (s : Single). AreOfItsClasses (catalog_of c.args.judged.now.world.now.store.now) (resolved_view c.args.judged.now.query.now) s.domains)
     c.in-Some.single.now c.in-Some.later.now
-    (subst (All (λ (s : Single). AreOfItsClasses (catalog_of c.args.world.now.store.now) (resolved_view c.args.query.now) s.domains)) c.in-Some.ensures.cases.0 c.singles.invariant.domains)
+    (subst (All (λ (s : Single). AreOfItsClasses (catalog_of c.args.judged.now.world.now.store.now) (resolved_view c.args.judged.now.query.now) s.domains)) c.in-Some.ensures.cases.0 c.singles.invariant.domains)
 
 pub singles-preserved : goal.singles-preserved
 singles-preserved g c =
-    let looks : Single → ℕ = λ s. query_reads (domain_size s.domains) (c.args.w.hi + 1 - c.args.w.lo) (resolved_view c.args.query.now) in
+    let looks : Single → ℕ = λ s. query_reads (domain_size s.domains) (c.args.judged.now.w.hi + 1 - c.args.judged.now.w.lo) (resolved_view c.args.judged.now.query.now) in
     record {
-      domains = All-rest (λ (s : Single). AreOfItsClasses (catalog_of c.args.world.now.store.now) (resolved_view c.args.query.now) s.domains)
+      domains = All-rest (λ (s : Single). AreOfItsClasses (catalog_of c.args.judged.now.world.now.store.now) (resolved_view c.args.judged.now.query.now) s.domains)
           c.in-Some.single.now c.in-Some.later.now c.singles.rest.now c.in-Some.ensures.cases.0 c.singles.invariant.domains;
-      made = pairs_go_on (ArePartsOf (told_world c.args.world.now) (resolved_view c.args.query.now) c.args.w.lo c.args.w.hi)
+      made = pairs_go_on (ArePartsOf (told_world c.args.judged.now.world.now) (resolved_view c.args.judged.now.query.now) c.args.judged.now.w.lo c.args.judged.now.w.hi)
           c.args.singles.now c.singles.rest.now c.in-Some.later.now c.in-Some.single.now c.singles.parts.items c.push.new.self.items
           (record { variable = c.in-Some.single.now.variable; rows = c.in_ok-rows.rows })
           c.in-Some.ensures.cases.0 c.in_ok-push.ensures.items
@@ -45,26 +45,26 @@ singles-preserved g c =
 
 pub returns-clause-parts : goal.returns-clause-parts
 returns-clause-parts g c =
-    pairs_end (ArePartsOf (told_world c.args.world.now) (resolved_view c.args.query.now) c.args.w.lo c.args.w.hi)
+    pairs_end (ArePartsOf (told_world c.args.judged.now.world.now) (resolved_view c.args.judged.now.query.now) c.args.judged.now.w.lo c.args.judged.now.w.hi)
     c.args.singles.now c.singles.rest.now c.singles.parts.items c.in_default.ensures.cases tt c.singles.invariant.made
 
 pub returns-clause-reads : goal.returns-clause-reads
 returns-clause-reads g c = record {
   least = omega arith;
-  most = (sum_ends (λ (s : Single). query_reads (domain_size s.domains) (c.args.w.hi + 1 - c.args.w.lo) (resolved_view c.args.query.now))
+  most = (sum_ends (λ (s : Single). query_reads (domain_size s.domains) (c.args.judged.now.w.hi + 1 - c.args.judged.now.w.lo) (resolved_view c.args.judged.now.query.now))
       c.singles.rest.now c.singles.reads _ c.singles.invariant.most);
 }
 
 pub returns-in_err-rows-clause-reads : goal.returns-in_err-rows-clause-reads
 returns-in_err-rows-clause-reads g c = record {
   least = omega arith;
-  most = (sum_stops (λ (s : Single). query_reads (domain_size s.domains) (c.args.w.hi + 1 - c.args.w.lo) (resolved_view c.args.query.now))
+  most = (sum_stops (λ (s : Single). query_reads (domain_size s.domains) (c.args.judged.now.w.hi + 1 - c.args.judged.now.w.lo) (resolved_view c.args.judged.now.query.now))
       c.singles.rest.now c.in-Some.later.now c.in-Some.single.now c.singles.reads _ _ c.in-Some.ensures.cases.0 c.in_err-rows.ensures.reads.most c.singles.invariant.most);
 }
 
 pub returns-in_err-push-clause-reads : goal.returns-in_err-push-clause-reads
 returns-in_err-push-clause-reads g c = record {
   least = omega arith;
-  most = (sum_stops (λ (s : Single). query_reads (domain_size s.domains) (c.args.w.hi + 1 - c.args.w.lo) (resolved_view c.args.query.now))
+  most = (sum_stops (λ (s : Single). query_reads (domain_size s.domains) (c.args.judged.now.w.hi + 1 - c.args.judged.now.w.lo) (resolved_view c.args.judged.now.query.now))
       c.singles.rest.now c.in-Some.later.now c.in-Some.single.now c.singles.reads _ _ c.in-Some.ensures.cases.0 c.in_ok-rows.ensures.reads.most c.singles.invariant.most);
 }

@@ -8,9 +8,9 @@ use Rattle.live_queries.proofs.parts.singles.Goals as goal
 
 pub variables-init : goal.variables-init
 variables-init c =
-    c.new-singles.ensures.items ∙ sym (ap (flat_map (single_for (catalog_of c.args.store.now) c.args.classes.now c.args.class c.args.id)) between_no)
+    c.new-singles.ensures.items ∙ sym (ap (flat_map (single_for (catalog_of c.args.store.now) c.args.classes.now c.args.object.now.class c.args.object.now.id)) between_no)
 
 pub variables-preserved : goal.variables-preserved
 variables-preserved c =
-    c.in_ok-add_single.ensures ∙ ap (λ ss. ss ++ single_for (catalog_of c.args.store.now) c.args.classes.now c.args.class c.args.id c.variables.variable) c.variables.invariant
-    ∙ sym (one_more_variable (single_for (catalog_of c.args.store.now) c.args.classes.now c.args.class c.args.id) c.variables.variable)
+    c.in_ok-add_single.ensures ∙ ap (λ ss. ss ++ single_for (catalog_of c.args.store.now) c.args.classes.now c.args.object.now.class c.args.object.now.id c.variables.variable) c.variables.invariant
+    ∙ sym (one_more_variable (single_for (catalog_of c.args.store.now) c.args.classes.now c.args.object.now.class c.args.object.now.id) c.variables.variable)

@@ -6,4 +6,4 @@ use Rattle.live_queries.specs.Written.{single_for}
 use Rattle.live_queries.proofs.parts.singles.Given as goal
 
 abbrev pub invariant-variables : goal.invariant-variables
-invariant-variables l = l.singles.items ≡ flat_map (single_for (catalog_of l.store) l.classes l.class l.id) (between 0 l.variable)
+invariant-variables l = l.singles.items ≡ flat_map (single_for (catalog_of l.store) l.classes l.object.class l.object.id) (between 0 l.variable)
