@@ -74,7 +74,7 @@ pub fn full_rows<'d, S: Temporal, I: Interpreter<S>, L: Ledger, M: Ledger>(
 }
 
 // The ticks at which the objects of a variable aren't there, as far as rows have such ticks. Where these rows have this
-// variable alone, no other object is asked for.
+// variable alone, or are few beside its objects, no other object is asked for.
 fn absence_for_rows<'d, S: Temporal, I: Interpreter<S>, L: Ledger>(
     alloc: Global,
     watched: &Watched<'_, I>,
@@ -92,13 +92,19 @@ fn absence_for_rows<'d, S: Temporal, I: Interpreter<S>, L: Ledger>(
     ensures frame { IfOk result (λ r. HasFrame r d.now watched.now.window.lo watched.now.window.hi) }
     ensures reads { StepsAtMost reads.old reads.new (domain_size d.now watched.now.var) }
 {
-    if rows.vars() == &[watched.var][..] {
+    let vars = rows.vars();
+    if vars == &[watched.var][..] {
         let away = absence_of_rows(alloc, watched, rows, d, reads)?;
-        Ok(away)
-    } else {
-        let away = rows_of_absence(alloc, watched, d, reads)?;
-        Ok(away)
+        return Ok(away);
     }
+    // Uniting the sets of the rows of an object takes longer than to ask whether it is there.
+    if has_variable(vars, watched.var) && rows.len() < d.of(watched.var).len() / 8 {
+        let own = rows.project(alloc, &[watched.var])?;
+        let away = absence_of_rows(alloc, watched, &own, d, reads)?;
+        return Ok(away);
+    }
+    let away = rows_of_absence(alloc, watched, d, reads)?;
+    Ok(away)
 }
 
 // The same where the rows have this variable alone.
