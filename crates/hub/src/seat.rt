@@ -18,7 +18,7 @@ use crate::notice::{push_moved, push_notice, push_refusal};
 use command_text::Command;
 use fixed_point::Word;
 use reply_text::push_ok;
-use session::{Desk, Next, Shared};
+use session::{Desk, Next, Printed, Shared};
 use std::alloc::AllocError;
 use std::sync::ledger::Ledger;
 use steps::Steps;
@@ -169,9 +169,12 @@ pub(crate) fn answer_other<L: Ledger, M: Ledger>(
     ensures right { OnOk result (IsRightOver shared.new desk.new) }
     ensures same { IsSameFor shared.old shared.new }
 {
-    let (command, line) = (taken.command, taken.line);
+    let printed = Printed {
+        command: taken.command,
+        line: Some(taken.line),
+    };
     reply.clear();
-    push_moved(shared.now(), command, reply)?;
-    shared.follow(desk, command, line, reads, probes, reply)?;
+    push_moved(shared.now(), taken.command, reply)?;
+    shared.follow(desk, &printed, reads, probes, reply)?;
     Ok(())
 }

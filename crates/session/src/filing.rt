@@ -55,7 +55,6 @@ fn put<F: Shelf>(
 
 /// Saves the text of the journal.
 fn save<F: Shelf, L: Ledger>(
-    alloc: Global,
     state: &State,
     file: &Word,
     shelf: &mut F,
@@ -70,6 +69,7 @@ fn save<F: Shelf, L: Ledger>(
     ensures reads { StepsAtMost reads.old reads.new (most_looks (held state.now.journal) (Tree.Save file.now)) }
     ensures unread { IfOk result (λ next. IsUnread next reads.old reads.new) }
 {
+    let alloc = *out.allocator();
     match save_text(alloc, &state.journal, reads) {
         Ok(text) => put(shelf, file, &text, out),
         Err(AllocError) => Err(ApplyFault::NoMemory),
@@ -78,7 +78,6 @@ fn save<F: Shelf, L: Ledger>(
 
 /// Exports the objects of a class.
 fn export<F: Shelf, L: Ledger>(
-    alloc: Global,
     state: &State,
     class: &Word,
     file: &Word,
@@ -94,6 +93,7 @@ fn export<F: Shelf, L: Ledger>(
     ensures reads { StepsAtMost reads.old reads.new (most_looks (held state.now.journal) (Tree.Export class.now file.now)) }
     ensures unread { IfOk result (λ next. IsUnread next reads.old reads.new) }
 {
+    let alloc = *out.allocator();
     match state.database.export_text(alloc, class, reads) {
         Ok(text) => put(shelf, file, &text, out),
         Err(CommandFault::Refused(refusal)) => Ok(Next::Refused(refusal)),
@@ -134,7 +134,6 @@ fn commands_in(
 
 /// Imports the rows of a text. After an error `out` begins with its old contents.
 fn import_text<L: Ledger, M: Ledger>(
-    alloc: Global,
     state: &mut State,
     class: &Word,
     text: &[u8],
@@ -153,6 +152,7 @@ fn import_text<L: Ledger, M: Ledger>(
         → reads.new ≤ reads.old + looks_of_rows class.now state.old.journal rows }
     ensures idle { rows_for state.old.journal class.now text.now ≡ None → reads.new ≡ reads.old }
 {
+    let alloc = *out.allocator();
     match commands_in(alloc, state, class, text) {
         Ok(Some(commands)) => {
             let entered = enter_rows(alloc, state, &commands, reads, probes, out);
@@ -169,7 +169,6 @@ fn import_text<L: Ledger, M: Ledger>(
 
 /// Imports the objects of a class: either all rows of the text are entered or none.
 fn import<F: Shelf, L: Ledger, M: Ledger>(
-    alloc: Global,
     state: &mut State,
     class: &Word,
     file: &Word,
@@ -195,7 +194,7 @@ fn import<F: Shelf, L: Ledger, M: Ledger>(
         return Ok(Next::Refused(refusal));
     }
     match shelf.fetch(file.bytes()) {
-        Ok(Some(text)) => import_text(alloc, state, class, &text, reads, probes, out),
+        Ok(Some(text)) => import_text(state, class, &text, reads, probes, out),
         Ok(None) => Ok(Next::Refused(Refusal::NoFile)),
         Err(OutFail::Failed) => Err(ApplyFault::ShelfFault),
         Err(OutFail::NoMemory) => Err(ApplyFault::NoMemory),
@@ -204,7 +203,6 @@ fn import<F: Shelf, L: Ledger, M: Ledger>(
 
 /// Carries out a command that asks the shelf. After an error `out` begins with its old contents.
 fn carry_out<F: Shelf, L: Ledger, M: Ledger>(
-    alloc: Global,
     state: &mut State,
     command: &Command,
     shelf: &mut F,
@@ -226,11 +224,9 @@ fn carry_out<F: Shelf, L: Ledger, M: Ledger>(
     ensures begins { Begins out.old.items out.new.items }
 {
     match command {
-        Command::Save { file } => save(alloc, state, file, shelf, reads, out),
-        Command::Export { class, file } => export(alloc, state, class, file, shelf, reads, out),
-        Command::Import { class, file } => {
-            import(alloc, state, class, file, shelf, reads, probes, out)
-        }
+        Command::Save { file } => save(state, file, shelf, reads, out),
+        Command::Export { class, file } => export(state, class, file, shelf, reads, out),
+        Command::Import { class, file } => import(state, class, file, shelf, reads, probes, out),
         _ => unreachable!(),
     }
 }
@@ -238,7 +234,6 @@ fn carry_out<F: Shelf, L: Ledger, M: Ledger>(
 /// Answers a command that asks the shelf. A refusal changes nothing, nor does a fault, but that an import that wants
 /// memory may have entered the first of its rows.
 pub(crate) fn file<F: Shelf, L: Ledger, M: Ledger>(
-    alloc: Global,
     state: &mut State,
     command: &Command,
     shelf: &mut F,
@@ -259,7 +254,7 @@ pub(crate) fn file<F: Shelf, L: Ledger, M: Ledger>(
     ensures cause { HasFaultCause (F.faults shelf.old) (F.faults shelf.new) result }
 {
     let before = out.len();
-    let filed = carry_out(alloc, state, command, shelf, reads, probes, out);
+    let filed = carry_out(state, command, shelf, reads, probes, out);
     if filed.is_err() {
         out.truncate(before);
     }

@@ -3,7 +3,6 @@ ghost use Rattle.std.specs.Prelude.{◌≡◌, ◌++◌, ◌∷◌, [], true, fa
 ghost use Rattle.std.specs.List.{flat_map};
 ghost use Rattle.command_text.specs.Journal.{is_kept};
 ghost use Rattle.command_text.specs.Tree;
-ghost use Rattle.command_text.specs.Text.{IsLineOf};
 ghost use Rattle.command_text.specs.Tree.{command_view};
 ghost use Rattle.line_meaning.specs.Reached.{AreReached};
 ghost use Rattle.line_meaning.specs.Step.{held};
@@ -19,12 +18,13 @@ ghost use Rattle.registry.specs.Moves.{told_moves_text};
 ghost use Rattle.registry.specs.Standing.{StoodAt};
 ghost use Rattle.session.specs.Asked.{request_command};
 ghost use Rattle.session.specs.Carried.{CarriesOut, IsAccepted, IsLegible, IsOnData, IsStopped, Spends, is_on_data, moment};
+ghost use Rattle.session.specs.Entering.{IsPrinted};
 ghost use Rattle.session.specs.Followed.{Accepts, Follows, IsChanged, IsMadeBy, Prepares, Settles, lines_told};
 ghost use Rattle.session.specs.State.{IsState, KeepsIndexes};
 ghost use Rattle.kept_indexes.specs.Making.{HasRoomForOk};
 
 use crate::entering::{admit, enter};
-use crate::state::{Changed, State};
+use crate::state::{Changed, Printed, State};
 use command_text::{Command, CommandFault, Refusal};
 use database::{Change, Database};
 use fixed_point::Word;
@@ -69,7 +69,7 @@ pub(crate) fn keep<L: Ledger, M: Ledger>(
                 span: *span,
                 query,
             };
-            add_query(alloc, state, command, &request, reads, probes, out)
+            add_query(state, command, &request, reads, probes, out)
         }
         Command::Keep { name, span, query } => {
             let request = Request {
@@ -78,7 +78,7 @@ pub(crate) fn keep<L: Ledger, M: Ledger>(
                 span: *span,
                 query,
             };
-            add_query(alloc, state, command, &request, reads, probes, out)
+            add_query(state, command, &request, reads, probes, out)
         }
         Command::Drop { name } => drop_query(state, command, name, out),
         _ => change(alloc, state, command, reads, probes, out),
@@ -88,7 +88,6 @@ pub(crate) fn keep<L: Ledger, M: Ledger>(
 /// Registers a query and enters its command.
 #[tactic(auto, using(crate::proofs::KeepLemmas::keeps_all))]
 fn add_query<L: Ledger, M: Ledger>(
-    alloc: Global,
     state: &mut State,
     command: &Command,
     request: &Request,
@@ -107,6 +106,7 @@ fn add_query<L: Ledger, M: Ledger>(
         (moment (held state.new.journal) out.new.items reads.new probes.new) result }
     ensures room { OnOk result (HasRoomForOk out.new) }
 {
+    let alloc = *out.allocator();
     let resolved = judge(alloc, &state.database, &state.live, request)?;
     admit(&state.journal, &mut state.line, command, None)?;
     register(
@@ -205,7 +205,11 @@ pub(crate) fn make_change<L: Ledger, M: Ledger>(
     let before = state.database.clock();
     let change = state.database.attempt(alloc, command)?;
     let changed = Changed { change, before };
-    match accept(state, command, None, &changed, reads, probes, out) {
+    let printed = Printed {
+        command,
+        line: None,
+    };
+    match accept(state, &printed, &changed, reads, probes, out) {
         Ok(()) => Ok(changed),
         Err(fault) => {
             let Changed { change, .. } = changed;
@@ -219,24 +223,23 @@ pub(crate) fn make_change<L: Ledger, M: Ledger>(
 /// the rows and the indexes right again. After an error the journal, the rows and the indexes are as before.
 pub(crate) fn accept<L: Ledger, M: Ledger>(
     state: &mut State,
-    command: &Command,
-    printed: Option<&[u8]>,
+    printed: &Printed,
     changed: &Changed,
     reads: &mut Steps<L>,
     probes: &mut Steps<M>,
     out: &mut Vec<u8>,
 ) -> Result<(), CommandFault>
-    requires changed { IsChanged (command_view command.now) changed.now.before changed.now.change state.old }
-    requires legible { IsLegible (command_view command.now) }
-    requires data { IsOnData (command_view command.now) }
-    requires printed { IfSome printed (λ line. IsLineOf line.now (command_view command.now)) }
-    ensures accepts { Accepts (command_view command.now) changed.now state.old state.new result }
-    ensures carries { CarriesOut (command_view command.now)
+    requires changed { IsChanged (command_view printed.now.command.now) changed.now.before changed.now.change state.old }
+    requires legible { IsLegible (command_view printed.now.command.now) }
+    requires data { IsOnData (command_view printed.now.command.now) }
+    requires line { IsPrinted printed.now }
+    ensures accepts { Accepts (command_view printed.now.command.now) changed.now state.old state.new result }
+    ensures carries { CarriesOut (command_view printed.now.command.now)
         (moment (held state.old.journal) out.old.items reads.old probes.old)
         (moment (held state.new.journal) out.new.items reads.new probes.new) result }
     ensures room { OnOk result (HasRoomForOk out.new) }
 {
-    let fresh = follow(state, command, printed, changed, reads, probes, out)?;
+    let fresh = follow(state, printed, changed, reads, probes, out)?;
     state.indexes.touch(&state.database, &changed.change);
     settle(&mut state.live, fresh, state.database.clock());
     queries_go_on_fitting_worlds();
@@ -267,26 +270,26 @@ fn settle(live: &mut Live, fresh: Option<Fresh>, now: u32)
 /// what a write makes of the rows, which is then to be made. After an error the journal and the rows are as before.
 fn follow<L: Ledger, M: Ledger>(
     state: &mut State,
-    command: &Command,
-    printed: Option<&[u8]>,
+    printed: &Printed,
     changed: &Changed,
     reads: &mut Steps<L>,
     probes: &mut Steps<M>,
     out: &mut Vec<u8>,
 ) -> Result<Option<Fresh>, CommandFault>
-    requires changed { IsChanged (command_view command.now) changed.now.before changed.now.change state.old }
-    requires legible { IsLegible (command_view command.now) }
-    requires data { IsOnData (command_view command.now) }
-    requires printed { IfSome printed (λ line. IsLineOf line.now (command_view command.now)) }
-    ensures follows { Follows (command_view command.now) changed.now.before changed.now.change state.old state.new out.old.items out.new.items result }
-    ensures spends { Spends (command_view command.now)
+    requires changed { IsChanged (command_view printed.now.command.now) changed.now.before changed.now.change state.old }
+    requires legible { IsLegible (command_view printed.now.command.now) }
+    requires data { IsOnData (command_view printed.now.command.now) }
+    requires line { IsPrinted printed.now }
+    ensures follows { Follows (command_view printed.now.command.now) changed.now.before changed.now.change state.old state.new out.old.items out.new.items result }
+    ensures spends { Spends (command_view printed.now.command.now)
         (moment (held state.old.journal) out.old.items reads.old probes.old)
         (moment (held state.new.journal) out.new.items reads.new probes.new) }
     ensures free { RefusesFreely (tally out.old.items reads.old probes.old) (tally out.new.items reads.new probes.new) result }
     ensures room { OnOk result (HasRoomForOk out.new) }
     ensures indexes { state.new.indexes ≡ state.old.indexes }
 {
-    admit(&state.journal, &mut state.line, command, printed)?;
+    let command = printed.command;
+    admit(&state.journal, &mut state.line, command, printed.line)?;
     let fresh = tell_change(state, command, changed, reads, probes, out)?;
     enter(&mut state.journal, changed.before, &state.line, out)?;
     Ok(fresh)

@@ -24,3 +24,4 @@ pub use loading::{LoadFault, load};
 pub use next::{ApplyFault, Next};
 pub use session::Session;
 pub use sharing::{Desk, Shared};
+pub use state::Printed;

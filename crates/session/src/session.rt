@@ -123,8 +123,7 @@ impl Session {
         // legible, and that the journal's writes are accepted ones.
         read_commands_are_legible();
         steps_write_what_is_accepted();
-        let (alloc, state) = (self.alloc, &mut self.state);
-        let applied = apply_command(alloc, state, &command, shelf, reads, probes, out);
+        let applied = apply_command(&mut self.state, &command, shelf, reads, probes, out);
         drop(command);
         applied
     }
@@ -173,7 +172,6 @@ impl Session {
 
 /// Carries out a command that was read, and answers it.
 fn apply_command<F: Shelf, L: Ledger, M: Ledger>(
-    alloc: Global,
     state: &mut State,
     command: &Command,
     shelf: &mut F,
@@ -195,8 +193,9 @@ fn apply_command<F: Shelf, L: Ledger, M: Ledger>(
     ensures cause { HasFaultCause (F.faults shelf.old) (F.faults shelf.new) result }
     ensures untouched { asks_shelf (command_view command.now) ≡ false → shelf.new ≡ shelf.old }
 {
+    let alloc = *out.allocator();
     match role_of(command) {
-        Role::Filing => file(alloc, state, command, shelf, reads, probes, out),
+        Role::Filing => file(state, command, shelf, reads, probes, out),
         _ => match carry_out(alloc, state, command, reads, probes, out) {
             Ok(next) => {
                 end(next, out);

@@ -1,20 +1,20 @@
 //! A database that several users share.
 ghost use Rattle.std.specs.Prelude.{◌≡◌, [], true, false, IfOk, None, OnOk};
 ghost use Rattle.command_text.specs.declared.fault.CommandFault.TheVariants.{NoMemory};
-ghost use Rattle.command_text.specs.Text.{IsLineOf};
 ghost use Rattle.command_text.specs.Tree.{command_view};
 ghost use Rattle.line_meaning.specs.Role.{asks_shelf};
 ghost use Rattle.line_meaning.specs.Step.{fault_of};
 ghost use Rattle.database.specs.Keeping.{clock_of};
 ghost use Rattle.kept_indexes.specs.Making.{HasRoomForOk};
 ghost use Rattle.session.specs.Carried.{Carried, HasRoomFor, IsAccepted, IsLegible, IsOnData, IsToCarryOut, Spends, is_on_data, moment};
+ghost use Rattle.session.specs.Entering.{IsPrinted};
 ghost use Rattle.session.specs.Sharing.{Awaits, IsBare, IsRightOver, IsSameFor, LeavesDatabase, LeavesOthers, changes_data, desk_of, held_at, user_state};
 ghost use Rattle.session.specs.State.{holds, IsIndexed, IsState};
 
 use crate::answer::carry_out;
 use crate::keeping::{accept, make_change};
 use crate::next::Next;
-use crate::state::{Changed, State};
+use crate::state::{Changed, Printed, State};
 use command_text::{Command, CommandFault, Journal};
 use kept_indexes::Indexes;
 use live_queries::Live;
@@ -185,26 +185,25 @@ impl Shared {
         }
     }
 
-    /// Carries out for the user of a desk what another user's command has changed of the database, by its canonical line, and
+    /// Carries out for the user of a desk what another user's command has changed of the database, and
     /// appends the lines of what that changes for this user's queries to `out`. After an error the desk isn't right any more.
     pub fn follow<L: Ledger, M: Ledger>(
         &mut self,
         desk: &mut Desk,
-        command: &Command,
-        line: &[u8],
+        printed: &Printed,
         reads: &mut Steps<L>,
         probes: &mut Steps<M>,
         out: &mut Vec<u8>,
     ) -> Result<(), AllocError>
-        requires behind { Awaits (command_view command.now) self.old desk.old }
-        requires data { is_on_data (command_view command.now) ≡ true }
-        requires legible { IsLegible (command_view command.now) }
-        requires line { IsLineOf line.now (command_view command.now) }
-        requires accepted { fault_of (held_at desk.old) (command_view command.now) ≡ None }
+        requires behind { Awaits (command_view printed.now.command.now) self.old desk.old }
+        requires data { is_on_data (command_view printed.now.command.now) ≡ true }
+        requires legible { IsLegible (command_view printed.now.command.now) }
+        requires line { IsPrinted printed.now }
+        requires accepted { fault_of (held_at desk.old) (command_view printed.now.command.now) ≡ None }
         ensures right { OnOk result (IsRightOver self.new desk.new) }
-        ensures accepted { OnOk result (IsAccepted (command_view command.now) (held_at desk.old) (held_at desk.new) out.old.items out.new.items) }
+        ensures accepted { OnOk result (IsAccepted (command_view printed.now.command.now) (held_at desk.old) (held_at desk.new) out.old.items out.new.items) }
         ensures others { IsSameFor self.old self.new }
-        ensures spends { Spends (command_view command.now)
+        ensures spends { Spends (command_view printed.now.command.now)
             (moment (held_at desk.old) out.old.items reads.old probes.old)
             (moment (held_at desk.new) out.new.items reads.new probes.new) }
         ensures room { OnOk result (HasRoomForOk out.new) }
@@ -213,15 +212,7 @@ impl Shared {
             unreachable!()
         };
         desk.change_places(&mut self.state);
-        let accepted = accept(
-            &mut self.state,
-            command,
-            Some(line),
-            changed,
-            reads,
-            probes,
-            out,
-        );
+        let accepted = accept(&mut self.state, printed, changed, reads, probes, out);
         desk.change_places(&mut self.state);
         match accepted {
             Ok(()) => Ok(()),

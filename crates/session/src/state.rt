@@ -3,7 +3,7 @@ ghost use Rattle.std.specs.Prelude.{◌≡◌, []};
 ghost use Rattle.kept_indexes.specs.Kept.{AreIndexes};
 ghost use Rattle.session.specs.State.{IsState};
 
-use command_text::Journal;
+use command_text::{Command, Journal};
 use database::{Change, Database};
 use kept_indexes::Indexes;
 use live_queries::Live;
@@ -35,6 +35,13 @@ impl State {
             line: Vec::new(alloc),
         }
     }
+}
+
+/// A command for a journal, with its canonical line where that was printed before.
+#[derive(Clone, Copy)]
+pub struct Printed<'a> {
+    pub command: &'a Command,
+    pub line: Option<&'a [u8]>,
 }
 
 /// What a command changed of the database, and the tick from before it.

@@ -108,7 +108,6 @@ fn has_room(journal: &Journal, trial: &Trial, line: &[u8]) -> bool
 /// Carries out a command of a row, unless something refuses it, and prints its canonical line. Want of memory changes
 /// nothing else.
 fn attempt(
-    alloc: Global,
     journal: &Journal,
     database: &mut Database,
     trial: &Trial,
@@ -126,6 +125,7 @@ fn attempt(
     if !has_room(journal, trial, line) {
         return Ok(None);
     }
+    let alloc = *line.allocator();
     match database.attempt(alloc, command) {
         Ok(change) => Ok(Some(change)),
         Err(CommandFault::Refused(_)) => Ok(None),
@@ -135,7 +135,6 @@ fn attempt(
 
 /// Tries a command of a row after those of a trial, which gets room for it.
 fn try_command(
-    alloc: Global,
     journal: &Journal,
     database: &mut Database,
     trial: &mut Trial,
@@ -147,7 +146,7 @@ fn try_command(
     ensures { TriesCommand journal.now (command_view command.now) database.old database.new trial.old trial.new line.new.items result }
 {
     trial.reserve()?;
-    attempt(alloc, journal, database, trial, line, command)
+    attempt(journal, database, trial, line, command)
 }
 
 /// The command of a row after those of a trial.
@@ -161,7 +160,6 @@ fn row_command(database: &Database, class: Word, row: ObjectRow) -> Command
 
 /// Tries rows up to the first that isn't taken. Answers whether all are.
 fn try_rows(
-    alloc: Global,
     journal: &Journal,
     database: &mut Database,
     trial: &mut Trial,
@@ -180,7 +178,7 @@ fn try_rows(
 {
     'rows: for row in rows {
         let command = row_command(database, class, row);
-        let tried = try_command(alloc, journal, database, trial, line, &command);
+        let tried = try_command(journal, database, trial, line, &command);
         if !trial.add(command, line.len() as u64 + 1, tried)? {
             return Ok(false);
         }
@@ -216,7 +214,7 @@ pub(crate) fn commands_of(
     ensures same { database.new ≡ database.old }
 {
     let mut trial = Trial::new(alloc, journal);
-    let tried = try_rows(alloc, journal, database, &mut trial, line, class, rows);
+    let tried = try_rows(journal, database, &mut trial, line, class, rows);
     let Trial {
         commands,
         changes,

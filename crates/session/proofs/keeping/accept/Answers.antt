@@ -11,12 +11,12 @@ use Rattle.session.proofs.keeping.accept.Goals as goal
 pub settle-requires : goal.settle-requires
 settle-requires g c =
     subst (λ (ks : List KeptQuery). IfSome c.in_ok-fresh.fresh (IsPrepared ks)) (sym c.in_ok-fresh.ensures.follows.live)
-    (prepared_is (command_view c.args.command.now) c.args.changed.now.change c.args.state.now.database c.args.state.now.live c.in_ok-fresh.fresh
+    (prepared_is (command_view c.args.printed.now.command.now) c.args.changed.now.change c.args.state.now.database c.args.state.now.live c.in_ok-fresh.fresh
     c.in_ok-fresh.ensures.follows.prepared)
 
 pub returns-clause-accepts : goal.returns-clause-accepts
 returns-clause-accepts g c =
-    let command = command_view c.args.command.now in
+    let command = command_view c.args.printed.now.command.now in
     record {
       state = changed_state (record {
         goes_on = c.queries_go_on_fitting_worlds.ensures;
@@ -47,7 +47,7 @@ returns-clause-accepts g c =
 
 pub returns-clause-carries : goal.returns-clause-carries
 returns-clause-carries g c =
-    let command = command_view c.args.command.now in
+    let command = command_view c.args.printed.now.command.now in
     record {
       accepted = changed_done (record {
         goes_on = c.queries_go_on_fitting_worlds.ensures;
